@@ -1,0 +1,33 @@
+// The vocabulary of the board: what can be asked of it, what it replies and why it refuses.
+mod call;
+mod fault;
+mod header;
+mod refusal;
+mod reply;
+
+pub use call::Call;
+pub use call::CallDebug;
+pub use call::Class;
+pub use call::ClassDebug;
+pub use call::ClassEq;
+pub use call::ClassPartialEq;
+pub use call::Mode;
+pub use call::ModeDebug;
+pub use call::ModeEq;
+pub use call::ModePartialEq;
+pub use fault::Fault;
+pub use fault::FaultDebug;
+pub use header::BoardKind;
+pub use header::BoardKindDebug;
+pub use header::BoardKindEq;
+pub use header::BoardKindPartialEq;
+pub use header::Header;
+pub use header::HeaderDebug;
+pub use header::RuleName;
+pub use header::RuleNameDebug;
+pub use header::RuleNameEq;
+pub use header::RuleNamePartialEq;
+pub use refusal::Refusal;
+pub use refusal::RefusalDebug;
+pub use reply::Reply;
+pub use reply::ReplyDebug;
