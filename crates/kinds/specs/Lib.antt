@@ -1,0 +1,4 @@
+pub mod Lawful
+pub mod Locomotives
+pub mod Turnouts
+pub mod Words

@@ -1,0 +1,5 @@
+pub mod HomeAnswers
+pub mod Laws
+pub mod NamedAnswers
+pub mod NowAnswers
+pub mod WarpAnswers
