@@ -4,6 +4,7 @@ mod fault;
 mod header;
 mod refusal;
 mod reply;
+mod write;
 
 pub use call::Call;
 pub use call::CallDebug;
@@ -31,3 +32,5 @@ pub use refusal::Refusal;
 pub use refusal::RefusalDebug;
 pub use reply::Reply;
 pub use reply::ReplyDebug;
+pub use write::Write;
+pub use write::WriteDebug;

@@ -10,7 +10,8 @@ use Rattle.std.proofs.shelf.Tests.{ltb-true, ltb-false, eqb-true, eqb-false, le
 use Rattle.std.specs.Options.{isSome}
 use Rattle.std.specs.declared.option.Option.{Option}
 use Rattle.std.specs.declared.option.Option.the-variants.{None, Some}
-use Rattle.history.specs.State.{Setup, Version, Item, Write, Transaction, State}
+use Rattle.calls.specs.declared.write.Write.{Write}
+use Rattle.history.specs.State.{Setup, Version, Item, Transaction, State}
 use Rattle.history.specs.Steps.{newest, natural-by, newer, gather, any, earliest, is-warped, missed-of, missed, overtaken, findings, listed, least, starts, start-of, running-of}
 use Rattle.history.specs.Promise.{_∈_}
 use Rattle.history.proofs.Runs.{all-in}

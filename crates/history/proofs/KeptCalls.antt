@@ -18,7 +18,8 @@ use Rattle.calls.specs.declared.call.Mode.the-variants.{Reader, Update}
 use Rattle.calls.specs.declared.call.Call.{Call}
 use Rattle.calls.specs.declared.call.Call.the-variants.{Admit, Revoke, Begin, Read, Write as Writing, Commit, Abandon, Show}
 use Rattle.rules.specs.Laws.{FourLaws}
-use Rattle.history.specs.State.{Setup, Version, Item, Write, Transaction, Seat, empty, held, State, put}
+use Rattle.calls.specs.declared.write.Write.{Write}
+use Rattle.history.specs.State.{Setup, Version, Item, Transaction, Seat, empty, held, State, put}
 use Rattle.calls.specs.declared.reply.Reply.the-variants.{Done}
 use Rattle.history.specs.Steps.{Outcome, asked, accept, set-running, step, admit, revoke, begin, read, write, commit, abandon, show, listed, list-code, newest, natural-by, place-by, is-held, running-of, runs, read-in, read-by-natural, read-by-place, commit-in, settle, is-update, admit-questions, revoke-questions, pass-questions, begin-questions, item-questions, write-questions}
 use Rattle.history.specs.Log.{Deeds, begun, and-read, and-wrote, Trace, Grant, Log, note, count-call}

@@ -22,7 +22,7 @@ use Rattle.calls.specs.declared.refusal.Refusal.{Refusal}
 use Rattle.calls.specs.declared.refusal.Refusal.the-variants.{UnknownSeat, SeatEmpty, WrongPass, NotBegun, ClockSpent, RuleRefuses, VersionsFull}
 use Rattle.rules.specs.Laws.{FourLaws}
 use Rattle.history.specs.State.{Setup, Version, Transaction, Seat, held, State}
-use Rattle.history.specs.Steps.{Outcome, Answer, step, limit, most, listed, missed-of, missed, earliest, findings, cut-down, has-place, has-room, is-full, insert-version, newest, stored, store, settle, commit-in, lowest, in-running, accept, refuse, raise-and-drop, asked, pass-questions, has-pass, is-held, running-of, item-questions, down-to-anchor, natural-by, least-start}
+use Rattle.history.specs.Steps.{Outcome, Answer, step, limit, most, listed, missed-of, missed, earliest, findings, cut-down, overfull, is-full, insert-version, newest, stored, store, settle, commit-in, lowest, in-running, accept, refuse, raise-and-drop, asked, pass-questions, has-pass, is-held, running-of, item-questions, down-to-anchor, natural-by, least-start}
 use Rattle.history.specs.Log.{History, Leads, log}
 use Rattle.history.specs.Promise.{_∈_, Lawful}
 use Rattle.history.specs.Progress.{Committing, UndisturbedCommitsGoThrough, OnlyTheRuleRefuses, OnlyFullListsRefuse}
@@ -36,10 +36,6 @@ use Rattle.history.proofs.Lowest.{Lowest, lowest-is, lowest-below, lowest-none
 
 has-pass-is : (p pass : ℕ) (class : Class) (o : Option Transaction) (x : Seat) → x ≡ held p class o → has-pass pass x ≡ true → p ≡ pass
 has-pass-is p pass class o x e has = eqb-true p pass (ap (has-pass pass) (sym e) ∙ has)
-
-is-some : (o : Option ℕ) → isSome o ≡ true → (c : ℕ) × (o ≡ Some c)
-is-some None e = let z : _≡_ {A = ℕ} 0 1 = cc in absurd (omega arith)
-is-some (Some c) e = (c, refl)
 
 empty-list : {A : Type 0} (xs : List A) → ltb 0 (length xs) ≡ false → xs ≡ []
 empty-list [] e = refl
@@ -76,7 +72,7 @@ module _ {b : Setup} {s : State} (h : History) (laws : FourLaws (b .rule)) (inv 
 
     abbrev ByList : Class → Transaction → Type 0
     ByList class x = (place : ℕ) × (b .rule (findings b s class x) ≡ Some place) × (item < b .items) × (code : ℕ) × (listed item (x .writes) ≡ Some code)
-        × (most < length (cut-down b s x item) + cond (has-place place (cut-down b s x item)) 0 1) × ((lower : ℕ) → lower < item → is-full b s x place lower ≡ false)
+        × (most < length (stored b s x place item (Some code))) × ((lower : ℕ) → lower < item → is-full b s x place lower ≡ false)
 
     settled-none : (class : Class) (x : Transaction) → x .start ≤ s .clock → b .rule (findings b s class x) ≡ None → settle b seat x s None .answer ≡ Err (RuleRefuses item) → ByRule class x
     settled-none class x by refuses e =
@@ -91,10 +87,13 @@ module _ {b : Setup} {s : State} (h : History) (laws : FourLaws (b .rule)) (inv 
         let is : lowest (b .items) (is-full b s x place) ≡ item = cc in
         let r = lowest-is (b .items) (is-full b s x place) in
         let full : is-full b s x place item ≡ true = subst (λ i. is-full b s x place i ≡ true) is (r .passes (ltb-true _ _ below)) in
-        let parts = and-parts (isSome (listed item (x .writes))) _ full in
-        let code = is-some (listed item (x .writes)) (parts .0) in
-        (place, grants, omega (arith, ltb-true _ _ below, is), code .0, code .1, leb-false _ _ (not-true _ (parts .1)), λ lower l. r .lower lower (omega (arith, is))))
+        let code = overfull-by (listed item (x .writes)) full in
+        (place, grants, omega (arith, ltb-true _ _ below, is), code .0, code .1, code .2, λ lower l. r .lower lower (omega (arith, is))))
         (λ _ e. let z : _≡_ {A = ℕ} 0 1 = cc in absurd (omega arith))
+      where
+        overfull-by : (o : Option ℕ) → overfull b s x place item o ≡ true → (code : ℕ) × (o ≡ Some code) × (most < length (stored b s x place item (Some code)))
+        overfull-by None e = let z : _≡_ {A = ℕ} 0 1 = cc in absurd (omega arith)
+        overfull-by (Some code) e = (code, refl, ltb-true _ _ e)
 
     -- a commit that ends with one of the two refusals was put to the rule
     committed : (refusal : Refusal) (Goal : Class → Transaction → Type 0) → 14 ≤ number refusal
@@ -151,7 +150,7 @@ only-full-lists-refuse b lawful h s leads seat pass item e =
   where
     by-answer : (inv : Inv b s (log h)) (class : Class) (x : Transaction) (o : Option ℕ) → x .start ≤ s .clock → b .rule (findings b s class x) ≡ o → settle b seat x s o .answer ≡ Err (VersionsFull item)
         → (place : ℕ) × (b .rule (findings b s class x) ≡ Some place) × (item < b .items) × (code : ℕ) × (listed item (x .writes) ≡ Some code)
-        × (most < length (cut-down b s x item) + cond (has-place place (cut-down b s x item)) 0 1) × ((lower : ℕ) → lower < item → is-full b s x place lower ≡ false)
+        × (most < length (stored b s x place item (Some code))) × ((lower : ℕ) → lower < item → is-full b s x place lower ≡ false)
     by-answer inv class x None by d e = let z : _≡_ {A = ℕ} 0 1 = cc in absurd (omega arith)
     by-answer inv class x (Some place) by d e = settled-some h (lawful .lawful-rule) inv seat pass item class x place d e
 

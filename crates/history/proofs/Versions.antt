@@ -12,7 +12,7 @@ use Rattle.std.specs.declared.option.Option.the-variants.{None, Some}
 use Rattle.calls.specs.declared.call.Mode.{Mode}
 use Rattle.calls.specs.declared.call.Mode.the-variants.{Reader, Update}
 use Rattle.history.specs.State.{Setup, Version, at-rest}
-use Rattle.history.specs.Steps.{newest, natural-by, newer, down-to-anchor, insert-version, has-place}
+use Rattle.history.specs.Steps.{newest, natural-by, newer, down-to-anchor, insert-version}
 use Rattle.history.specs.Log.{Trace, Grant}
 use Rattle.history.specs.Order.{ahead, arranged}
 use Rattle.history.specs.Run.{Table, run, all-rest}

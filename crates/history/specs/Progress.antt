@@ -1,6 +1,6 @@
 -- What keeps the promise from being empty: commits go through where nothing stands against them, and are refused for the stated reasons alone.
 use mathlib.Core.Path.{_≡_}
-use mathlib.Core.Bool.{Bool, true, false, cond}
+use mathlib.Core.Bool.{Bool, true, false}
 use mathlib.Core.List.{List, [], _∷_, map}
 use Prim.Native.Nat.{ℕ, suc, zero, _+_, _<_, _≤_}
 use lib.ListN.{length}
@@ -14,7 +14,7 @@ use Rattle.calls.specs.declared.call.Call.the-variants.{Commit, Show}
 use Rattle.calls.specs.declared.reply.Reply.the-variants.{Code, Granted}
 use Rattle.calls.specs.declared.refusal.Refusal.the-variants.{RuleRefuses, VersionsFull}
 use Rattle.history.specs.State.{Setup, Transaction, held, State}
-use Rattle.history.specs.Steps.{step, limit, most, is-update, listed, missed-of, missed, findings, cut-down, has-place, is-full}
+use Rattle.history.specs.Steps.{step, limit, most, is-update, listed, missed-of, missed, findings, stored, is-full}
 use Rattle.history.specs.Log.{History, Leads, Grant, log}
 use Rattle.history.specs.Promise.{Lawful}
 
@@ -52,7 +52,7 @@ OnlyFullListsRefuse =
     → (class : Class) × (x : Transaction) × Committing b s seat pass class x
     × (place : ℕ) × (b .rule (findings b s class x) ≡ Some place)
     × (item < b .items) × (code : ℕ) × (listed item (x .writes) ≡ Some code)
-    × (most < length (cut-down b s x item) + cond (has-place place (cut-down b s x item)) 0 1)
+    × (most < length (stored b s x place item (Some code)))
     × ((lower : ℕ) → lower < item → is-full b s x place lower ≡ false)
 
 -- the natural numbers of the granted updates, the latest first

@@ -8,6 +8,7 @@ use Rattle.std.specs.declared.option.Option.{Option}
 use Rattle.std.specs.declared.option.Option.the-variants.{Some, None}
 use Rattle.calls.specs.declared.call.Class.{Class}
 use Rattle.calls.specs.declared.call.Mode.{Mode}
+use Rattle.calls.specs.declared.write.Write.{Write}
 use Rattle.rules.specs.declared.findings.Findings.{Findings}
 
 -- what a board is made for
@@ -28,10 +29,6 @@ pub record Version : Type 0 where
 pub record Item : Type 0 where
   pub stamp : ℕ
   pub versions : List Version
-
-pub record Write : Type 0 where
-  pub item : ℕ
-  pub code : ℕ
 
 -- an open transaction
 pub record Transaction : Type 0 where

@@ -19,7 +19,8 @@ use Rattle.calls.specs.declared.reply.Reply.the-variants.{Done, Pass, Start, Co
 use Rattle.calls.specs.declared.refusal.Refusal.{Refusal}
 use Rattle.calls.specs.declared.refusal.Refusal.the-variants.{UnknownSeat, SeatHeld, PassesSpent, SeatEmpty, WrongPass, AlreadyBegun, NotBegun, UnknownItem, ReaderWrites, UnknownCode, WriteListFull, ClockSpent, RuleRefuses, VersionsFull}
 use Rattle.rules.specs.declared.findings.Findings.{Findings}
-use Rattle.history.specs.State.{Setup, Version, Item, Write, Transaction, Seat, empty, held, State, put, at-rest}
+use Rattle.calls.specs.declared.write.Write.{Write}
+use Rattle.history.specs.State.{Setup, Version, Item, Transaction, Seat, empty, held, State, put, at-rest}
 
 -- where the clock and the passes stop
 abbrev pub limit : ℕ
@@ -115,10 +116,6 @@ abbrev pub down-to-anchor : ℕ → List Version → List Version
 down-to-anchor least [] = []
 down-to-anchor least (v ∷ vs) = v ∷ cond (natural-by least v) [] (down-to-anchor least vs)
 
-abbrev pub has-place : ℕ → List Version → Bool
-has-place place [] = false
-has-place place (v ∷ vs) = eqb (v .place) place || has-place place vs
-
 -- a new version goes in by its place; where the list has that place already, the write is skipped
 abbrev pub insert-version : Version → List Version → List Version
 insert-version n [] = n ∷ []
@@ -204,20 +201,23 @@ raise-and-drop s seat t = record {
   seats = put (s .seats) seat (runs None (s .seats seat));
 }
 
--- the list of an item for which a code is listed, with room for one more
+-- the versions of an item that stay: the anchor and those above it
 abbrev pub cut-down : Setup → State → Transaction → ℕ → List Version
 cut-down b s t item = down-to-anchor (least-start b s t) (s .items item .versions)
 
-abbrev pub has-room : Setup → State → Transaction → ℕ → ℕ → Bool
-has-room b s t place item = leb (length (cut-down b s t item) + cond (has-place place (cut-down b s t item)) 0 1) most
-
-abbrev pub is-full : Setup → State → Transaction → ℕ → ℕ → Bool
-is-full b s t place item = isSome (listed item (t .writes)) && not (has-room b s t place item)
-
--- a listed item's versions once the commit is granted
+-- an item's versions once the commit is granted: of a listed one those below the anchor are gone and the new one is in
 abbrev pub stored : Setup → State → Transaction → ℕ → ℕ → Option ℕ → List Version
 stored b s t place item None = s .items item .versions
-stored b s t place item (Some code) = insert-version (record { code = code; natural = s .clock + 1; place = place }) (cut-down b s t item)
+stored b s t place item (Some code) =
+    insert-version (record { code = code; natural = s .clock + 1; place = place }) (cut-down b s t item)
+
+-- a listed item's versions would be too many
+abbrev pub overfull : Setup → State → Transaction → ℕ → ℕ → Option ℕ → Bool
+overfull b s t place item None = false
+overfull b s t place item (Some code) = ltb most (length (stored b s t place item (Some code)))
+
+abbrev pub is-full : Setup → State → Transaction → ℕ → ℕ → Bool
+is-full b s t place item = overfull b s t place item (listed item (t .writes))
 
 abbrev pub store : Setup → State → ℕ → Transaction → ℕ → State
 store b s seat t place = record {
