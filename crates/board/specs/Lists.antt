@@ -1,0 +1,19 @@
+-- Lists in a board's fixed tables.
+use mathlib.Core.Bool.{Bool}
+use mathlib.Core.List.{List}
+use Prim.Native.Nat.{ℕ, _*_}
+use lib.Dec.{eqb}
+use lib.ListN.{take, drop}
+use Rattle.calls.specs.declared.write.Write.{Write}
+use Rattle.board.specs.declared.transaction.Transaction.{Transaction}
+
+-- what a transaction has listed
+abbrev pub write-list : Transaction → List Write
+write-list t = take (t .count) (t .writes)
+
+abbrev pub is-for : ℕ → Write → Bool
+is-for item w = eqb (w .item) item
+
+-- the slots of an item
+abbrev pub slots-of : {A : Type 0} → List A → ℕ → List A
+slots-of memory item = take 8 (drop (8 * item) memory)

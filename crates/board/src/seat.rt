@@ -1,0 +1,13 @@
+// A place from which somebody uses the board.
+use crate::transaction::Transaction;
+use calls::Class;
+
+#[derive(Clone, Copy)]
+pub enum Seat {
+    Empty,
+    Held {
+        pass: u32,
+        class: Class,
+        running: Option<Transaction>,
+    },
+}
