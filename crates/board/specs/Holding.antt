@@ -51,11 +51,11 @@ Seated b (Held pass class None) (held p c (Some x)) = ⊥
 Seated b (Held pass class (Some t)) (held p c None) = ⊥
 Seated b (Held pass class (Some t)) (held p c (Some x)) = (pass ≡ p) × (class ≡ c) × Runs b t x
 
-module _ {S R : Type 0} (state : S → Type 0) (coded : S → ℕ) (rest : S) (count : ℕ) (answers : R → Findings → Option ℕ) where
-  -- what a board is made for: its sizes, its kind and its rule
-  abbrev pub setup-of : Board S R → Setup
-  setup-of board = record { items = board .items; seats = board .«seat_count»; codes = count; rest = coded rest; rule = answers (board .rule) }
+-- what a board is made for: its sizes, its kind and its rule
+abbrev pub setup-of : {S R : Type 0} → (S → ℕ) → S → ℕ → (R → Findings → Option ℕ) → Board S R → Setup
+setup-of coded rest count answers board = record { items = board .items; seats = board .«seat_count»; codes = count; rest = coded rest; rule = answers (board .rule) }
 
+module _ {S R : Type 0} (state : S → Type 0) (coded : S → ℕ) (rest : S) (count : ℕ) (answers : R → Findings → Option ℕ) where
   -- the board keeps just what the state does: every number, every seat, and in the slots of each item its versions, head first, with rest versions behind
   pub record Holds (board : Board S R) (s : State) : Type 0 where
     pub some-items : 1 ≤ board .items
@@ -65,8 +65,8 @@ module _ {S R : Type 0} (state : S → Type 0) (coded : S → ℕ) (rest : S) (c
     pub clock : board .clock ≡ s .clock
     pub passes : board .passes ≡ s .passes
     pub stamps : (item : ℕ) → item < board .items → getD (board .stamps) item 0 ≡ s .items item .stamp
-    pub seats : (seat : ℕ) → seat < board .«seat_count» → Seated (setup-of board) (getD (board .seats) seat Empty) (s .seats seat)
+    pub seats : (seat : ℕ) → seat < board .«seat_count» → Seated (setup-of coded rest count answers board) (getD (board .seats) seat Empty) (s .seats seat)
     pub memory : length (now (board .versions)) ≡ 8 * board .items
-    pub lists : (item : ℕ) → item < board .items → as-codes coded (slots-of (now (board .versions)) item) ≡ padded 8 (at-rest (setup-of board)) (s .items item .versions)
+    pub lists : (item : ℕ) → item < board .items → as-codes coded (slots-of (now (board .versions)) item) ≡ padded 8 (at-rest (setup-of coded rest count answers board)) (s .items item .versions)
     pub few-versions : (item : ℕ) → item < board .items → length (s .items item .versions) ≤ 8
     pub states : All (λ (v : Version S). state (v .state)) (now (board .versions))

@@ -1,0 +1,9 @@
+pub mod Answers
+pub mod Laws
+pub mod Lines
+pub mod Numbers
+pub mod Parts
+pub mod Reading
+pub mod Table
+pub mod Tokens
+pub mod Writing
