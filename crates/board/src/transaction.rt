@@ -40,7 +40,7 @@ impl Transaction {
     }
 
     // The write list.
-    fn list_of(&self) -> &[Write]
+    pub fn writes_listed(&self) -> &[Write]
         ensures value { λ r. ⌜ now r ≡ write-list (now (self .entry)) ⌝ }
         ensures within { λ r. ⌜ length (now r) ≤ 8 ⌝ }
         ensures whole { λ _. ⌜ length (now (self .entry) .writes) ≡ 8 ⌝ }
@@ -53,7 +53,7 @@ impl Transaction {
     pub fn listed(&self, item: u32) -> Option<u32>
         ensures { λ r. ⌜ r ≡ listed item (write-list (now (self .entry))) ⌝ }
     {
-        let writes = self.list_of();
+        let writes = self.writes_listed();
         let at = find_item(writes, item);
         if at < writes.len() {
             Some(writes[at].code)
@@ -70,7 +70,7 @@ impl Transaction {
         ensures start { λ _. ⌜ now (self .exit) .start ≡ now (self .entry) .start ⌝ }
         ensures marks { λ _. ⌜ now (self .exit) .marks ≡ now (self .entry) .marks ⌝ }
     {
-        let writes = self.list_of();
+        let writes = self.writes_listed();
         let count = writes.len();
         let at = find_item(writes, item);
         if at >= WRITES {

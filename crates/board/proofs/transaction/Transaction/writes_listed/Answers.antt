@@ -5,7 +5,7 @@ use native.Mathlib.Omega.{arith}
 use native.Mathlib.Nat.{sub-zero}
 use lib.ListN.{length, take, length-take}
 use Rattle.board.proofs.Listing.{take-within}
-use Rattle.board.proofs.transaction.Transaction.list_of.Needs as need
+use Rattle.board.proofs.transaction.Transaction.writes_listed.Needs as need
 
 pub returns : need.returns
 returns c =
