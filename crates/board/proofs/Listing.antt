@@ -23,32 +23,32 @@ module _ (item : ℕ) where
   listed-found [] d lt = absurd (omega arith)
   listed-found (w ∷ ws) d lt =
       (elim (eqb (w .item) item) as (λ k. cond k 0 (suc (first-index (is-for item) ws)) < suc (length ws) → cond k (Some (w .code)) (listed item ws) ≡ Some (getD (w ∷ ws) (cond k 0 (suc (first-index (is-for item) ws))) d .code)) [
-        true ↦ λ _. refl
-      | false ↦ λ l. listed-found ws d (omega arith)
+        | true ↦ λ _. refl
+        | false ↦ λ l. listed-found ws d (omega arith)
       ]) lt
 
   pub listed-lost : (ws : List Write) → length ws ≤ first-index (is-for item) ws → listed item ws ≡ None
   listed-lost [] le = refl
   listed-lost (w ∷ ws) le =
       (elim (eqb (w .item) item) as (λ k. suc (length ws) ≤ cond k 0 (suc (first-index (is-for item) ws)) → cond k (Some (w .code)) (listed item ws) ≡ None) [
-        true ↦ λ l. absurd (omega arith)
-      | false ↦ λ l. listed-lost ws (omega arith)
+        | true ↦ λ l. absurd (omega arith)
+        | false ↦ λ l. listed-lost ws (omega arith)
       ]) le
 
   pub list-found : (code : ℕ) (ws : List Write) → first-index (is-for item) ws < length ws → list-code item code ws ≡ set ws (first-index (is-for item) ws) (record { item = item; code = code })
   list-found code [] lt = absurd (omega arith)
   list-found code (w ∷ ws) lt =
       (elim (eqb (w .item) item) as (λ k. cond k 0 (suc (first-index (is-for item) ws)) < suc (length ws) → cond k (record { item = item; code = code } ∷ ws) (w ∷ list-code item code ws) ≡ set (w ∷ ws) (cond k 0 (suc (first-index (is-for item) ws))) (record { item = item; code = code })) [
-        true ↦ λ _. refl
-      | false ↦ λ l. ap (λ us. w ∷ us) (list-found code ws (omega arith))
+        | true ↦ λ _. refl
+        | false ↦ λ l. ap (λ us. w ∷ us) (list-found code ws (omega arith))
       ]) lt
 
   pub list-lost : (code : ℕ) (ws : List Write) → length ws ≤ first-index (is-for item) ws → list-code item code ws ≡ ws ++ record { item = item; code = code } ∷ []
   list-lost code [] le = refl
   list-lost code (w ∷ ws) le =
       (elim (eqb (w .item) item) as (λ k. suc (length ws) ≤ cond k 0 (suc (first-index (is-for item) ws)) → cond k (record { item = item; code = code } ∷ ws) (w ∷ list-code item code ws) ≡ w ∷ (ws ++ record { item = item; code = code } ∷ [])) [
-        true ↦ λ l. absurd (omega arith)
-      | false ↦ λ l. ap (λ us. w ∷ us) (list-lost code ws (omega arith))
+        | true ↦ λ l. absurd (omega arith)
+        | false ↦ λ l. ap (λ us. w ∷ us) (list-lost code ws (omega arith))
       ]) le
 
 -- a write within the front, and one just behind it

@@ -56,7 +56,7 @@ sized items seats slots e =
 pub new-holds : {S R : Type 0} (state : S → Type 0) (coded : S → ℕ) (rest : S) (count : ℕ) (answers : R → Findings → Option ℕ) (items seats : ℕ) (rule : R) (versions : RefT (List (Version S)))
     → state rest → 1 ≤ items → items ≤ 256 → 1 ≤ seats → seats ≤ 32 → now versions ≡ replicate (items * 8) (rest-version rest)
     → Holds state coded rest count answers (record { items = items; «seat_count» = seats; clock = 1; passes = 0; stamps = replicate 256 0; seats = replicate 32 Empty; rule = rule; versions = versions })
-      (new-board (setup-of coded rest count answers (record { items = items; «seat_count» = seats; clock = 1; passes = 0; stamps = replicate 256 0; seats = replicate 32 Empty; rule = rule; versions = versions })))
+    (new-board (setup-of coded rest count answers (record { items = items; «seat_count» = seats; clock = 1; passes = 0; stamps = replicate 256 0; seats = replicate 32 Empty; rule = rule; versions = versions })))
 new-holds {S} state coded rest count answers items seats rule versions resting i1 i2 s1 s2 laid = record {
   some-items = i1;
   few-items = i2;

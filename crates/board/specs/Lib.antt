@@ -1,3 +1,4 @@
 pub mod Lists
 pub mod Sizes
 pub mod Holding
+pub mod Looks

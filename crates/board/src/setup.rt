@@ -33,7 +33,12 @@ pub struct Unfit<'m, K> {
 
 impl<'m, K: Kind, R: Rule + Drop> Board<'m, K, R> {
     // A new board on the front of the memory, eight slots for each item; what lies behind is not touched.
-    pub fn new(items: u32, seats: u32, rule: R, memory: &'m mut [Version<K>]) -> Result<Board<'m, K, R>, Unfit<'m, K>>
+    pub fn new(
+        items: u32,
+        seats: u32,
+        rule: R,
+        memory: &'m mut [Version<K>],
+    ) -> Result<Board<'m, K, R>, Unfit<'m, K>>
         ensures { λ r. ⌜ Cases r (λ board. (fits items seats (length (now (memory .entry))) ≡ true) × Holds (K·Kind .state) (K·Kind .coded) (K·Kind .rest) (K·Kind .count) (R·Rule .answers) board (new-board (setup-of (K·Kind .coded) (K·Kind .rest) (K·Kind .count) (R·Rule .answers) board))) (λ unfit. (fits items seats (length (now (memory .entry))) ≡ false) × (now (unfit .memory) ≡ now (memory .entry))) ⌝ }
     {
         if !setup_fits(items, seats, memory.len()) {

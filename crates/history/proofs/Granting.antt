@@ -205,10 +205,10 @@ module _ {b : Setup} {s : State} {l : Log} (inv : Inv b s l) (x : Transaction) (
           let is : least-start b s x ≡ y .start = ⊎-elim (λ d. d) (λ j. elim j [ ]) (List·Memᴰ·cases-cons m) in
           (w .0, w .1, omega (arith, w .2, at .1 .both .same-start, is))
 
-  cut-is : (i : ℕ) → Cut (least-start b s x) (s .items i .versions) (cut-down b s x i)
+  pub cut-is : (i : ℕ) → Cut (least-start b s x) (s .items i .versions) (cut-down b s x i)
   cut-is i = let w = least-reached i in cut-down-is (least-start b s x) (s .items i .versions) (w .0) (inv .keeps i .falling) (w .1) (w .2)
 
-  least-below : least-start b s x < place
+  pub least-below : least-start b s x < place
   least-below = omega (arith, least-first (x .start) (starts b s), fair .above-start)
 
   pub lists-keep : (i : ℕ) → Keeps b (T ∷ l .granted) i (stored b s x place i (listed i (x .writes)))

@@ -44,7 +44,7 @@ place-by-clock clock calls items g k = ⊎-elim
     (update-or-reader (g .trace .mode))
 
 -- what is listed once a code is
-listed-code : (i item code : ℕ) (ws : List Write) → listed i (list-code item code ws) ≡ cond (eqb i item) (Some code) (listed i ws)
+pub listed-code : (i item code : ℕ) (ws : List Write) → listed i (list-code item code ws) ≡ cond (eqb i item) (Some code) (listed i ws)
 listed-code i item code [] = ⊎-elim
     (λ e. cond-true _ _ _ (eq-eqb item i (sym e)) ∙ sym (cond-true _ _ _ (eq-eqb i item e)))
     (λ far. cond-false _ _ _ (ne-eqb item i (λ e. far (sym e))) ∙ sym (cond-false _ _ _ (ne-eqb i item far)))

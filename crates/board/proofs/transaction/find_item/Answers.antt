@@ -10,6 +10,6 @@ loop-at-again c = (omega arith, walk-more _ (c .args .writes .now) (c .loop-at .
 pub returns : need.returns
 returns c =
     elim (c .then-at-writes .came) [
-      then-at-writes·by·then-at-writes w ↦ walk-end _ (c .args .writes .now) (c .loop-at .at) (c .loop-at .inv .1) (w .if-at-writes .taken)
-    | then-at-writes·by·else-at-writes·then-writes-at w ↦ walk-found _ (c .args .writes .now) (c .loop-at .at) (c .loop-at .inv .1) _ (w .if-at-writes .left) (eq-eqb _ _ (w .if-writes-at .taken))
+      | then-at-writes·by·then-at-writes w ↦ walk-end _ (c .args .writes .now) (c .loop-at .at) (c .loop-at .inv .1) (w .if-at-writes .taken)
+      | then-at-writes·by·else-at-writes·then-writes-at w ↦ walk-found _ (c .args .writes .now) (c .loop-at .at) (c .loop-at .inv .1) _ (w .if-at-writes .left) (eq-eqb _ _ (w .if-writes-at .taken))
     ]

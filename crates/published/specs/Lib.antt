@@ -1,0 +1,2 @@
+pub mod Algorithm
+pub mod Beside
