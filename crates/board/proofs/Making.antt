@@ -64,7 +64,9 @@ new-holds {S} state coded rest count answers items seats rule versions resting i
   few-seats = s2;
   clock = refl;
   passes = refl;
+  stamp-table = length-replicate {A = ℕ} 256 0;
   stamps = λ item _. getD-replicate 256 item 0;
+  seat-table = length-replicate 32 Empty;
   seats = λ seat _. subst (λ x. Seated (record { items = items; seats = seats; codes = count; rest = coded rest; rule = answers rule }) x empty) (sym (getD-replicate 32 seat Empty)) tt;
   memory = ap length laid ∙ length-replicate (items * 8) (rest-version rest) ∙ omega arith;
   lists = λ item lt. ap (λ l. as-codes coded (slots-of l item)) laid ∙ ap (as-codes coded) (part-replicate 8 (8 * item) (items * 8) (rest-version rest) (omega arith)) ∙ map-replicate (as-code coded) 8 (rest-version rest);

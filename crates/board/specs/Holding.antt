@@ -36,9 +36,11 @@ OnceEach (w ∷ ws) = (listed (w .item) ws ≡ None) × OnceEach ws
 pub record Runs (b : Setup) (t : Transaction) (x : Running) : Type 0 where
   pub mode : t .mode ≡ x .mode
   pub start : t .start ≡ x .start
+  pub mark-table : length (t .marks) ≡ 256
   pub marks : (item : ℕ) → item < b .items → getD (t .marks) item false ≡ x .marked item
   pub writes : write-list t ≡ x .writes
   pub once : OnceEach (x .writes)
+  pub known : All (λ (w : Write). w .item < b .items) (x .writes)
   pub codes : All (λ (w : Write). w .code < b .codes) (x .writes)
 
 -- a seat is the one that the rules have
@@ -64,9 +66,22 @@ module _ {S R : Type 0} (state : S → Type 0) (coded : S → ℕ) (rest : S) (c
     pub few-seats : board .«seat_count» ≤ 32
     pub clock : board .clock ≡ s .clock
     pub passes : board .passes ≡ s .passes
+    pub stamp-table : length (board .stamps) ≡ 256
     pub stamps : (item : ℕ) → item < board .items → getD (board .stamps) item 0 ≡ s .items item .stamp
+    pub seat-table : length (board .seats) ≡ 32
     pub seats : (seat : ℕ) → seat < board .«seat_count» → Seated (setup-of coded rest count answers board) (getD (board .seats) seat Empty) (s .seats seat)
     pub memory : length (now (board .versions)) ≡ 8 * board .items
     pub lists : (item : ℕ) → item < board .items → as-codes coded (slots-of (now (board .versions)) item) ≡ padded 8 (at-rest (setup-of coded rest count answers board)) (s .items item .versions)
     pub few-versions : (item : ℕ) → item < board .items → length (s .items item .versions) ≤ 8
     pub states : All (λ (v : Version S). state (v .state)) (now (board .versions))
+
+  -- a call does its step: after every list of calls that leads to the state that the board holds, its answer is the step's, and the board then holds what the step leaves
+  pub record Follows (before after : Board S R) (call : Call) (answer : Answer) : Type 0 where
+    pub same-setup : setup-of coded rest count answers after ≡ setup-of coded rest count answers before
+    pub follows : (h : History) (s : State) → Leads (setup-of coded rest count answers before) h s → Holds before s
+        → (answer ≡ step (setup-of coded rest count answers before) call s .answer) × Holds after (step (setup-of coded rest count answers before) call s .after)
+
+-- what a call tells, as a reply
+abbrev pub told : {A : Type 0} → (A → Reply) → Result A Refusal → Answer
+told reply (Ok x) = Ok (reply x)
+told reply (Err refusal) = Err refusal

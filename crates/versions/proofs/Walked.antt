@@ -64,7 +64,7 @@ earliest-snoc (u ∷ vs) v =
     go None = refl
     go (Some p) = ap Some (omega arith)
 
-any-snoc : {A : Type 0} (test : A → Bool) (xs : List A) (x : A) → any test (xs ++ x ∷ []) ≡ (any test xs || test x)
+pub any-snoc : {A : Type 0} (test : A → Bool) (xs : List A) (x : A) → any test (xs ++ x ∷ []) ≡ (any test xs || test x)
 any-snoc test [] x = elim (test x) as (λ k. (k || false) ≡ k) [ true ↦ refl | false ↦ refl ]
 any-snoc test (y ∷ ys) x = ap (λ k. test y || k) (any-snoc test ys x) ∙ elim (test y) as (λ k. (k || (any test ys || test x)) ≡ ((k || any test ys) || test x)) [ true ↦ refl | false ↦ refl ]
 
