@@ -1,3 +1,4 @@
 pub mod Listing
 pub mod Making
 pub mod Finding
+pub mod Raising

@@ -2,3 +2,4 @@ pub mod Lists
 pub mod Sizes
 pub mod Holding
 pub mod Looks
+pub mod Ends

@@ -1,5 +1,6 @@
 // The board: eight calls over version memory that its owner lends.
 mod board;
+mod ends;
 mod findings;
 mod looks;
 mod seat;
