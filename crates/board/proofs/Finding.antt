@@ -5,20 +5,23 @@ use mathlib.Core.List.{List, [], _∷_, _++_, append-nil}
 use Prim.Native.Nat.{ℕ, zero, suc, _+_, _-_, _*_, _<_, _≤_, min}
 use native.Mathlib.Omega.{arith}
 use native.Mathlib.Numerals.{add-one}
-use lib.Dec.{leb}
+use lib.Dec.{leb, ltb}
 use lib.ListN.{length, take, drop, getD, replicate}
 use denote.Ref.{now}
+use mathlib.Core.Logic.{⊎-elim}
+use Rattle.std.specs.Options.{isSome}
 use Rattle.std.specs.shelf.Lists.{All}
 use Rattle.std.specs.declared.option.Option.{Option}
 use Rattle.std.specs.declared.option.Option.the-variants.{None, Some}
-use Rattle.std.proofs.shelf.Tests.{cond-true, cond-false, le-leb, lt-leb, or-right}
+use Rattle.std.proofs.shelf.Tests.{cond-true, cond-false, le-leb, lt-leb, lt-ltb, or-right, both-ways, cases-lt}
 use Rattle.std.proofs.shelf.Lists.{take-more}
 use Rattle.std.proofs.shelf.Elements.{all-getD}
 use Rattle.versions.proofs.Walked.{any-snoc}
 use Rattle.calls.specs.declared.write.Write.{Write}
 use Rattle.rules.specs.declared.findings.Findings.{Findings}
 use Rattle.history.specs.State.{Setup, State, Version as Kept, Transaction as Running, Seat as Place, empty, held, at-rest}
-use Rattle.history.specs.Steps.{gather, missed-of, missed, newer, natural-by, any, overtaken, least, starts, start-of, running-of}
+use Rattle.history.specs.Steps.{gather, missed-of, missed, earliest, lowest, newer, natural-by, any, overtaken, least, starts, start-of, running-of}
+use Rattle.history.proofs.Lowest.{lowest-is, lowest-none}
 use Rattle.versions.specs.declared.version.Version.{Version}
 use Rattle.versions.specs.declared.slots.Missed.{Missed}
 use Rattle.versions.specs.Slots.{as-codes, padded}
@@ -29,6 +32,23 @@ use Rattle.board.specs.declared.seat.Seat.the-variants.{Empty, Held}
 use Rattle.board.specs.declared.board.Board.{Board}
 use Rattle.board.specs.Lists.{slots-of, write-list, starts-in}
 use Rattle.board.specs.Holding.{Runs, Seated, setup-of, Holds}
+
+some-earliest : (vs : List Kept) → isSome (earliest vs) ≡ ltb 0 (length vs)
+some-earliest [] = refl
+some-earliest (v ∷ vs) = go (earliest vs) ∙ sym (lt-ltb 0 (length (v ∷ vs)) (omega arith))
+  where
+    go : (o : Option ℕ) → isSome (elim o as (λ _. Option ℕ) [ None ↦ Some (v .place) | Some p ↦ Some (min (v .place) p) ]) ≡ true
+    go None = refl
+    go (Some p) = refl
+
+-- the lowest number that passes, as a loop finds it
+pub lowest-at : (n : ℕ) (test : ℕ → Bool) (k : ℕ) → k < n → test k ≡ true → ((j : ℕ) → j < k → test j ≡ false) → k ≡ lowest n test
+lowest-at n test k lt e lower =
+    let r = lowest-is n test in
+    ⊎-elim
+    (λ less. absurd (both-ways (test (lowest n test)) (lower (lowest n test) less) (r .passes (omega arith))))
+    (λ le. ⊎-elim (λ more. absurd (both-ways (test k) (r .lower k more) e)) (λ ge. omega arith) (cases-lt k (lowest n test)))
+    (cases-lt (lowest n test) k)
 
 -- rest versions behind a list are never newer
 newer-rests : (b : Setup) (start n : ℕ) → newer start (replicate n (at-rest b)) ≡ []
@@ -58,6 +78,27 @@ least-append m [] ys = refl
 least-append m (x ∷ xs) ys = least-min x (least m xs) ys ∙ ap (min x) (least-append m xs ys)
 
 module _ {S R : Type 0} (state : S → Type 0) (coded : S → ℕ) (rest : S) (count : ℕ) (answers : R → Findings → Option ℕ) (board : Board S R) where
+  -- the newer versions in a marked item's slots are its missed ones
+  newer-missed : (t : Transaction) (k : ℕ) (slots : List (Version S)) → k < board .items → getD (t .marks) k false ≡ true
+      → (8 * k + 8 ≤ length (now (board .versions)) → slots ≡ slots-of (now (board .versions)) k)
+      → (s : State) (x : Running) → Holds state coded rest count answers board s → Runs (setup-of coded rest count answers board) t x → newer (t .start) (as-codes coded slots) ≡ missed-of s x k
+  newer-missed t k slots lt marked at s x h r =
+      let here : slots ≡ slots-of (now (board .versions)) k = at (omega (arith, h .memory)) in
+      let codes : as-codes coded slots ≡ padded 8 (at-rest (setup-of coded rest count answers board)) (s .items k .versions) = ap (as-codes coded) here ∙ h .lists k lt in
+      ap (newer (t .start)) codes ∙ newer-padded (setup-of coded rest count answers board) (t .start) _ (s .items k .versions) ∙ ap (λ n. newer n (s .items k .versions)) (r .start)
+      ∙ sym (cond-true (x .marked k) _ _ (sym (r .marks k lt) ∙ marked))
+
+  -- whether there are any
+  pub misses-marked : (t : Transaction) (k : ℕ) (found : Missed) (slots : List (Version S)) → getD (t .marks) k false ≡ true
+      → (8 * k + 8 ≤ length (now (board .versions)) → slots ≡ slots-of (now (board .versions)) k)
+      → ((c : S → ℕ) (vs : List Kept) → Tells (record { earliest = None; warped = false }) vs → Tells found (vs ++ newer (t .start) (as-codes c slots)))
+      → (s : State) (x : Running) → Holds state coded rest count answers board s → Runs (setup-of coded rest count answers board) t x → k < board .items → isSome (found .earliest) ≡ ltb 0 (length (missed-of s x k))
+  misses-marked t k found slots marked at one s x h r lt =
+      ap isSome (one coded [] (record { earliest-is = refl; warped-is = refl }) .earliest-is ∙ ap earliest (newer-missed t k slots lt marked at s x h r)) ∙ some-earliest (missed-of s x k)
+
+  pub misses-unmarked : (t : Transaction) (k : ℕ) → (s : State) (x : Running) → Holds state coded rest count answers board s → Runs (setup-of coded rest count answers board) t x → k < board .items → getD (t .marks) k false ≡ false → false ≡ ltb 0 (length (missed-of s x k))
+  misses-unmarked t k s x h r lt marked = sym (ap (λ l. ltb 0 (length l)) (cond-false (x .marked k) (newer (x .start) (s .items k .versions)) [] (sym (r .marks k lt) ∙ marked)))
+
   -- one item more, marked or not
   pub missed-marked : (t : Transaction) (k : ℕ) (before after : Missed) (slots : List (Version S)) → k < board .items → getD (t .marks) k false ≡ true
       → (8 * k + 8 ≤ length (now (board .versions)) → slots ≡ slots-of (now (board .versions)) k)
@@ -65,12 +106,7 @@ module _ {S R : Type 0} (state : S → Type 0) (coded : S → ℕ) (rest : S) (c
       → ((s : State) (x : Running) → Holds state coded rest count answers board s → Runs (setup-of coded rest count answers board) t x → Tells before (gather k (missed-of s x)))
       → (s : State) (x : Running) → Holds state coded rest count answers board s → Runs (setup-of coded rest count answers board) t x → Tells after (gather (k + 1) (missed-of s x))
   missed-marked t k before after slots lt marked at one so-far s x h r =
-      let here : slots ≡ slots-of (now (board .versions)) k = at (omega (arith, h .memory)) in
-      let codes : as-codes coded slots ≡ padded 8 (at-rest (setup-of coded rest count answers board)) (s .items k .versions) = ap (as-codes coded) here ∙ h .lists k lt in
-      let more : newer (t .start) (as-codes coded slots) ≡ missed-of s x k =
-      ap (newer (t .start)) codes ∙ newer-padded (setup-of coded rest count answers board) (t .start) _ (s .items k .versions) ∙ ap (λ n. newer n (s .items k .versions)) (r .start)
-      ∙ sym (cond-true (x .marked k) _ _ (sym (r .marks k lt) ∙ marked)) in
-      subst (λ n. Tells after (gather n (missed-of s x))) (sym (add-one k)) (subst (λ l. Tells after (gather k (missed-of s x) ++ l)) more (one coded _ (so-far s x h r)))
+      subst (λ n. Tells after (gather n (missed-of s x))) (sym (add-one k)) (subst (λ l. Tells after (gather k (missed-of s x) ++ l)) (newer-missed t k slots lt marked at s x h r) (one coded _ (so-far s x h r)))
 
   pub missed-unmarked : (t : Transaction) (k : ℕ) (m : Missed) → k < board .items → getD (t .marks) k false ≡ false
       → ((s : State) (x : Running) → Holds state coded rest count answers board s → Runs (setup-of coded rest count answers board) t x → Tells m (gather k (missed-of s x)))

@@ -1,9 +1,10 @@
 // What a commit finds.
 ghost use mathlib.Core.Path.{_≡_};
 ghost use Prim.Native.Nat.{ℕ, _+_, _*_, _<_, _≤_};
+ghost use lib.Dec.{ltb};
 ghost use lib.ListN.{length};
 ghost use Rattle.history.specs.State.{State, Transaction as Running};
-ghost use Rattle.history.specs.Steps.{missed, overtaken, findings, least as least-of, starts};
+ghost use Rattle.history.specs.Steps.{missed, missed-of, lowest, overtaken, findings, least as least-of, starts};
 ghost use Rattle.versions.specs.Plans.{Tells};
 ghost use Rattle.board.specs.Holding.{setup-of, Runs, Holds};
 ghost use Rattle.board.specs.Lists.{starts-in};
@@ -47,6 +48,35 @@ impl<K: Kind, R: Rule> Board<'_, K, R> {
             }
         }
         missed
+    }
+
+    // Whether a version of an item was missed.
+    fn misses(&self, txn: &Transaction, item: usize) -> bool
+        ensures { λ r. ⌜ ((s : State) (x : Running) → Holds (K·Kind .state) (K·Kind .coded) (K·Kind .rest) (K·Kind .count) (R·Rule .answers) (now (self .entry)) s → Runs (setup-of (K·Kind .coded) (K·Kind .rest) (K·Kind .count) (R·Rule .answers) (now (self .entry))) (now (txn .entry)) x → item < now (self .entry) .items → r ≡ ltb 0 (length (missed-of s x item))) ⌝ }
+    {
+        if item >= 256 || !txn.marks[item] {
+            return false;
+        }
+        let nothing = Missed {
+            earliest: None,
+            warped: false,
+        };
+        count_missed(self.slots(item), txn.start, nothing)
+            .earliest
+            .is_some()
+    }
+
+    // The lowest item of which a version was missed, or the count of items.
+    pub fn lowest_missed(&self, txn: &Transaction) -> u32
+        ensures { λ r. ⌜ ((s : State) (x : Running) → Holds (K·Kind .state) (K·Kind .coded) (K·Kind .rest) (K·Kind .count) (R·Rule .answers) (now (self .entry)) s → Runs (setup-of (K·Kind .coded) (K·Kind .rest) (K·Kind .count) (R·Rule .answers) (now (self .entry))) (now (txn .entry)) x → r ≡ lowest (now (self .entry) .items) (λ item. ltb 0 (length (missed-of s x item)))) ⌝ }
+    {
+        let count = self.items.min(256);
+        for item in 0..count {
+            if self.misses(txn, item) {
+                return item as u32;
+            }
+        }
+        count as u32
     }
 
     fn overtaken(&self, txn: &Transaction) -> bool
