@@ -2,3 +2,4 @@ pub mod Listing
 pub mod Making
 pub mod Finding
 pub mod Raising
+pub mod Roomy

@@ -3,3 +3,4 @@ pub mod Sizes
 pub mod Holding
 pub mod Looks
 pub mod Ends
+pub mod Room

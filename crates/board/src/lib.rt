@@ -3,6 +3,7 @@ mod board;
 mod ends;
 mod findings;
 mod looks;
+mod room;
 mod seat;
 mod setup;
 mod transaction;
