@@ -3,3 +3,4 @@ pub mod Making
 pub mod Finding
 pub mod Raising
 pub mod Roomy
+pub mod Remembering

@@ -4,3 +4,4 @@ pub mod Holding
 pub mod Looks
 pub mod Ends
 pub mod Room
+pub mod Memory

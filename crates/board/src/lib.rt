@@ -6,6 +6,7 @@ mod looks;
 mod room;
 mod seat;
 mod setup;
+mod storing;
 mod transaction;
 
 pub use board::Board;
