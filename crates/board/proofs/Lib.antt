@@ -4,3 +4,4 @@ pub mod Finding
 pub mod Raising
 pub mod Roomy
 pub mod Remembering
+pub mod StoredAlls
