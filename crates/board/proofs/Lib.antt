@@ -5,3 +5,7 @@ pub mod Raising
 pub mod Roomy
 pub mod Remembering
 pub mod StoredAlls
+pub mod Doing
+pub mod Opening
+pub mod Seeing
+pub mod Requesting

@@ -23,7 +23,7 @@ use Rattle.board.specs.Lists.{slots-of}
 use Rattle.board.specs.Sizes.{fits}
 use Rattle.board.specs.Holding.{Seated, setup-of, Holds}
 
-getD-replicate : {X : Type 0} (n i : ℕ) (x : X) → getD (replicate n x) i x ≡ x
+pub getD-replicate : {X : Type 0} (n i : ℕ) (x : X) → getD (replicate n x) i x ≡ x
 getD-replicate zero i x = refl
 getD-replicate (suc n) zero x = refl
 getD-replicate (suc n) (suc i) x = getD-replicate n i x

@@ -4,7 +4,7 @@ use mathlib.Core.Bool.{false, cond}
 use mathlib.Core.List.{List}
 use Prim.Native.Nat.{ℕ, _<_}
 use lib.ListN.{length, getD}
-use Rattle.std.specs.declared.option.Option.the-variants.{None}
+use Rattle.std.specs.declared.option.Option.{Option}
 use Rattle.board.specs.declared.transaction.Transaction.{Transaction}
 use Rattle.board.specs.declared.seat.Seat.{Seat}
 use Rattle.board.specs.declared.seat.Seat.the-variants.{Empty, Held}
@@ -36,10 +36,10 @@ with-stamps board stamps = record {
   versions = board .versions;
 }
 
--- the seat, with no open transaction
-abbrev pub closed : Seat → Seat
-closed Empty = Empty
-closed (Held pass class o) = Held pass class None
+-- the seat, with this transaction open, or none
+abbrev pub replaced : Option Transaction → Seat → Seat
+replaced o Empty = Empty
+replaced o (Held pass class before) = Held pass class o
 
 -- nothing changes but the stamps of marked items, which are the clock
 pub record Raised {S R : Type 0} (before after : Board S R) (t : Transaction) : Type 0 where

@@ -75,11 +75,15 @@ module _ {S R : Type 0} (state : S → Type 0) (coded : S → ℕ) (rest : S) (c
     pub few-versions : (item : ℕ) → item < board .items → length (s .items item .versions) ≤ 8
     pub states : All (λ (v : Version S). state (v .state)) (now (board .versions))
 
-  -- a call does its step: after every list of calls that leads to the state that the board holds, its answer is the step's, and the board then holds what the step leaves
-  pub record Follows (before after : Board S R) (call : Call) (answer : Answer) : Type 0 where
+  -- from a state that the board held before, the answer is the step's, and the board then holds what the step leaves
+  pub record Stepped (before after : Board S R) (call : Call) (answer : Answer) (s : State) : Type 0 where
     pub same-setup : setup-of coded rest count answers after ≡ setup-of coded rest count answers before
-    pub follows : (h : History) (s : State) → Leads (setup-of coded rest count answers before) h s → Holds before s
-        → (answer ≡ step (setup-of coded rest count answers before) call s .answer) × Holds after (step (setup-of coded rest count answers before) call s .after)
+    pub answered : answer ≡ step (setup-of coded rest count answers before) call s .answer
+    pub holds : Holds after (step (setup-of coded rest count answers before) call s .after)
+
+  -- a call does its step, after every list of calls that leads to the state that the board holds
+  abbrev pub Follows : Board S R → Board S R → Call → Answer → Type 0
+  Follows before after call answer = (h : History) (s : State) → Leads (setup-of coded rest count answers before) h s → Holds before s → Stepped before after call answer s
 
 -- what a call tells, as a reply
 abbrev pub told : {A : Type 0} → (A → Reply) → Result A Refusal → Answer

@@ -14,6 +14,10 @@ use Rattle.board.specs.declared.seat.Seat.the-variants.{Empty, Held}
 abbrev pub write-list : Transaction → List Write
 write-list t = take (t .count) (t .writes)
 
+-- the transaction, with other marks
+abbrev pub with-marks : Transaction → List Bool → Transaction
+with-marks t marks = record { mode = t .mode; start = t .start; marks = marks; writes = t .writes; count = t .count }
+
 abbrev pub is-for : ℕ → Write → Bool
 is-for item w = eqb (w .item) item
 

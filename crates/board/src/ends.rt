@@ -7,7 +7,7 @@ ghost use lib.ListN.{length, getD, set};
 ghost use Rattle.history.specs.State.{State, Transaction as Running};
 ghost use Rattle.history.specs.Steps.{lowest, missed-of};
 ghost use Rattle.board.specs.Holding.{setup-of, Runs, Holds};
-ghost use Rattle.board.specs.Ends.{with-seats, closed, Raised};
+ghost use Rattle.board.specs.Ends.{with-seats, replaced, Raised};
 ghost use Rattle.board.specs.declared.seat.Seat.the-variants.{Empty};
 use crate::board::Board;
 use crate::seat::Seat;
@@ -16,12 +16,21 @@ use kinds::Kind;
 use rules::Rule;
 
 impl<K: Kind, R: Rule> Board<'_, K, R> {
-    // The seat has no open transaction any more.
-    pub fn close(&mut self, at: usize)
-        ensures { λ _. ⌜ (at < 32 → now (self .exit) ≡ with-seats (now (self .entry)) (set (now (self .entry) .seats) at (closed (getD (now (self .entry) .seats) at Empty)))) ⌝ }
+    // The seat has this transaction open, or none.
+    pub fn set_running(&mut self, at: usize, running: Option<Transaction>)
+        ensures { λ _. ⌜ (at < 32 → now (self .exit) ≡ with-seats (now (self .entry)) (set (now (self .entry) .seats) at (replaced running (getD (now (self .entry) .seats) at Empty)))) ⌝ }
     {
         if at < 32 {
-            self.seats[at] = without_transaction(self.seats[at]);
+            self.seats[at] = with_running(self.seats[at], running);
+        }
+    }
+
+    // The seat becomes this one.
+    pub(crate) fn put(&mut self, at: usize, seat: Seat)
+        ensures { λ _. ⌜ (at < 32 → now (self .exit) ≡ with-seats (now (self .entry)) (set (now (self .entry) .seats) at seat)) ⌝ }
+    {
+        if at < 32 {
+            self.seats[at] = seat;
         }
     }
 
@@ -37,16 +46,16 @@ impl<K: Kind, R: Rule> Board<'_, K, R> {
     }
 }
 
-// The seat with no open transaction.
-fn without_transaction(seat: Seat) -> Seat
-    ensures { λ r. ⌜ r ≡ closed seat ⌝ }
+// The seat with this transaction open, or none.
+fn with_running(seat: Seat, running: Option<Transaction>) -> Seat
+    ensures { λ r. ⌜ r ≡ replaced running seat ⌝ }
 {
     match seat {
         Seat::Empty => Seat::Empty,
         Seat::Held { pass, class, .. } => Seat::Held {
             pass,
             class,
-            running: None,
+            running,
         },
     }
 }

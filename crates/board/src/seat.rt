@@ -11,3 +11,11 @@ pub enum Seat {
         running: Option<Transaction>,
     },
 }
+
+// A held seat whose pass was shown.
+#[derive(Clone, Copy)]
+pub struct HeldSeat {
+    pub at: usize,
+    pub class: Class,
+    pub running: Option<Transaction>,
+}

@@ -3,11 +3,11 @@ ghost use mathlib.Core.Path.{_≡_};
 ghost use mathlib.Core.Bool.{true, false, cond, _||_};
 ghost use Prim.Native.Nat.{ℕ, _+_, _-_, _<_, _≤_};
 ghost use lib.Dec.{ltb};
-ghost use lib.ListN.{length, getD, take, replicate};
+ghost use lib.ListN.{length, getD, set, take, replicate};
 ghost use Rattle.std.specs.Options.{isSome};
 ghost use Rattle.history.specs.Steps.{listed, list-code};
 ghost use Rattle.versions.specs.Slots.{first-index};
-ghost use Rattle.board.specs.Lists.{write-list, is-for};
+ghost use Rattle.board.specs.Lists.{write-list, is-for, with-marks};
 use calls::Mode;
 use calls::Write;
 
@@ -59,6 +59,15 @@ impl Transaction {
             Some(writes[at].code)
         } else {
             None
+        }
+    }
+
+    // Marks an item as read.
+    pub fn mark(&mut self, item: usize)
+        ensures { λ _. ⌜ (item < 256 → now (self .exit) ≡ with-marks (now (self .entry)) (set (now (self .entry) .marks) item true)) ⌝ }
+    {
+        if item < 256 {
+            self.marks[item] = true;
         }
     }
 

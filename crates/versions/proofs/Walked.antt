@@ -92,3 +92,12 @@ pub missed-all : {S : Type 0} (slots : List (Version S)) (k start : ℕ) (before
     → ((coded : S → ℕ) (vs : List Kept) → Tells before vs → Tells m (vs ++ as-codes coded (take k slots)))
     → (coded : S → ℕ) (vs : List Kept) → Tells before vs → Tells m (vs ++ newer start (as-codes coded slots))
 missed-all slots k start before m e so-far coded vs t = subst (λ l. Tells m (vs ++ l)) (ap (λ n. as-codes coded (take n slots)) e ∙ sym (newer-front coded start slots)) (so-far coded vs t)
+
+-- with nothing to pass by, the newest version is the head
+pub head-found : {S : Type 0} (coded : S → ℕ) (b : Setup) (vs : List (Version S)) (d : Version S) → 0 < length vs → newest b (λ _. true) (as-codes coded vs) .code ≡ coded (getD vs 0 d .state)
+head-found coded b [] d lt = absurd (omega arith)
+head-found coded b (v ∷ vs) d lt = refl
+
+pub head-lost : {S : Type 0} (coded : S → ℕ) (b : Setup) (vs : List (Version S)) → length vs ≤ 0 → newest b (λ _. true) (as-codes coded vs) .code ≡ b .rest
+head-lost coded b [] le = refl
+head-lost coded b (v ∷ vs) le = absurd (omega arith)

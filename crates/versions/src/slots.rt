@@ -1,5 +1,6 @@
 // Functions over the slots of one item.
 ghost use mathlib.Core.Path.{_≡_};
+ghost use mathlib.Core.Bool.{true};
 ghost use mathlib.Core.List.{List, [], _∷_, _++_};
 ghost use Prim.Native.Nat.{ℕ, _+_, _-_, _<_, _≤_};
 ghost use lib.Dec.{leb};
@@ -49,6 +50,17 @@ pub fn code_in_sight<K: Kind>(slots: &[Version<K>], sight: Sight, limit: u32) ->
     let at = find(slots, sight, limit);
     if at < slots.len() {
         slots[at].state.code()
+    } else {
+        K::at_rest().code()
+    }
+}
+
+// The code of the newest version.
+pub fn head_code<K: Kind>(slots: &[Version<K>]) -> u32
+    ensures { λ r. ⌜ ((b : Setup) → b .rest ≡ K·Kind .coded (K·Kind .rest) → r ≡ newest b (λ _. true) (as-codes (K·Kind .coded) (now (slots .entry))) .code) ⌝ }
+{
+    if slots.len() > 0 {
+        slots[0].state.code()
     } else {
         K::at_rest().code()
     }

@@ -1,0 +1,46 @@
+// Who holds a seat.
+ghost use mathlib.Core.Path.{_≡_};
+ghost use Rattle.calls.specs.declared.call.Call.the-variants.{Admit, Revoke};
+ghost use Rattle.calls.specs.declared.reply.Reply.the-variants.{Pass, Done};
+ghost use Rattle.board.specs.Holding.{Follows, told};
+use crate::board::Board;
+use crate::seat::Seat;
+use calls::Class;
+use calls::Refusal;
+use kinds::Kind;
+use rules::Rule;
+
+// Where the clock and the passes stop.
+pub const LIMIT: u32 = 1_000_000;
+
+impl<K: Kind, R: Rule> Board<'_, K, R> {
+    // Gives an empty seat to somebody under the next pass.
+    pub(crate) fn admit(&mut self, seat: u32, class: Class) -> Result<u32, Refusal>
+        ensures { λ r. ⌜ Follows (K·Kind .state) (K·Kind .coded) (K·Kind .rest) (K·Kind .count) (R·Rule .answers) (now (self .entry)) (now (self .exit)) (Admit seat class) (told Pass r) ⌝ }
+    {
+        let at = self.empty_seat(seat)?;
+        if self.passes >= LIMIT {
+            return Err(Refusal::PassesSpent);
+        }
+        let pass = self.passes + 1;
+        self.passes = pass;
+        self.put(
+            at,
+            Seat::Held {
+                pass,
+                class,
+                running: None,
+            },
+        );
+        Ok(pass)
+    }
+
+    // Empties a seat, and drops its open transaction.
+    pub(crate) fn revoke(&mut self, seat: u32) -> Result<(), Refusal>
+        ensures { λ r. ⌜ Follows (K·Kind .state) (K·Kind .coded) (K·Kind .rest) (K·Kind .count) (R·Rule .answers) (now (self .entry)) (now (self .exit)) (Revoke seat) (told (λ _. Done) r) ⌝ }
+    {
+        let at = self.taken_seat(seat)?;
+        self.put(at, Seat::Empty);
+        Ok(())
+    }
+}
