@@ -9,3 +9,6 @@ pub mod Doing
 pub mod Opening
 pub mod Seeing
 pub mod Requesting
+pub mod Ending
+pub mod Committing
+pub mod Keeping

@@ -54,7 +54,7 @@ seated-parts b pass p class c None (Some x) k = absurd k
 seated-parts b pass p class c (Some t) None k = absurd k
 seated-parts b pass p class c (Some t) (Some x) k = k
 
-seated-set : (b : Setup) (o : Option Transaction) (r : Option Running) (x : Seat) (y : Place) → RunsBoth b o r → Seated b x y → Seated b (replaced o x) (runs r y)
+pub seated-set : (b : Setup) (o : Option Transaction) (r : Option Running) (x : Seat) (y : Place) → RunsBoth b o r → Seated b x y → Seated b (replaced o x) (runs r y)
 seated-set b o r Empty empty k seated = seated
 seated-set b o r Empty (held p c r') k seated = absurd seated
 seated-set b o r (Held pass class o') empty k seated = absurd seated

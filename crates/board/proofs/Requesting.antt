@@ -25,7 +25,7 @@ use Rattle.calls.specs.declared.reply.Reply.the-variants.{Code, Done}
 use Rattle.calls.specs.declared.refusal.Refusal.the-variants.{ReaderWrites, UnknownCode, WriteListFull}
 use Rattle.rules.specs.declared.findings.Findings.{Findings}
 use Rattle.history.specs.State.{Setup, State, Item, Version as Kept, Transaction as Running, Seat as Place, empty, held, put, at-rest}
-use Rattle.history.specs.Steps.{Outcome, asked, accept, refuse, step, listed, list-code, newest, natural-by, place-by, is-update, pass-questions, item-questions, write-questions, in-running, with-running, read-in, read-by-natural, set-running}
+use Rattle.history.specs.Steps.{Outcome, asked, accept, refuse, step, listed, list-code, newest, natural-by, place-by, is-update, pass-questions, item-questions, write-questions, running-of, in-running, with-running, read-in, read-by-natural, set-running}
 use Rattle.history.proofs.Kept.{put-same, put-other}
 use Rattle.history.proofs.KeptCalls.{listed-code}
 use Rattle.versions.specs.declared.version.Version.{Version}
@@ -49,17 +49,18 @@ pub record Opened (b : Setup) (seat pass : ℕ) (class : Class) (t : Transaction
   pub x : Running
   pub runs : Runs b t x
   pub in-range : seat < b .seats
+  pub on-board : running-of (s .seats seat) ≡ Some x
   pub goes : (go : Class → Running → Outcome) → with-running b seat pass s go ≡ go class x
 
-in-seated : (b : Setup) (pass : ℕ) (class : Class) (t : Transaction) (y : Place) (s : State) → Seated b (Held pass class (Some t)) y → (x : Running) × Runs b t x × ((go : Class → Running → Outcome) → in-running s y go ≡ go class x)
+in-seated : (b : Setup) (pass : ℕ) (class : Class) (t : Transaction) (y : Place) (s : State) → Seated b (Held pass class (Some t)) y → (x : Running) × Runs b t x × ((go : Class → Running → Outcome) → in-running s y go ≡ go class x) × (running-of y ≡ Some x)
 in-seated b pass class t empty s k = absurd k
 in-seated b pass class t (held p c None) s k = absurd k
-in-seated b pass class t (held p c (Some x)) s k = (x, k .2, λ go. ap (λ c. go c x) (sym (k .1)))
+in-seated b pass class t (held p c (Some x)) s k = (x, k .2, λ go. ap (λ c. go c x) (sym (k .1)), refl)
 
 pub opened : (b : Setup) (seat pass : ℕ) (h : HeldSeat) (t : Transaction) (s : State) → PassAsked b seat pass s (Ok h) → h .running ≡ Some t → Opened b seat pass (h .class) t s
 opened b seat pass h t s (e, ok, seated) is =
     let r = in-seated b pass (h .class) t (s .seats seat) s (subst (λ o. Seated b (Held pass (h .class) o) (s .seats seat)) is seated) in
-    record { x = r .0; runs = r .1; in-range = ltb-true seat (b .seats) (ok .0); goes = λ go. asked-yes (pass-questions b seat pass s) s _ ok ∙ r .2 go }
+    record { x = r .0; runs = r .1; in-range = ltb-true seat (b .seats) (ok .0); on-board = r .3; goes = λ go. asked-yes (pass-questions b seat pass s) s _ ok ∙ r .2 go }
 
 ---- write lists
 

@@ -81,11 +81,17 @@ module _ {S R : Type 0} (state : S → Type 0) (coded : S → ℕ) (rest : S) (c
     pub answered : answer ≡ step (setup-of coded rest count answers before) call s .answer
     pub holds : Holds after (step (setup-of coded rest count answers before) call s .after)
 
+  -- a call keeps the promise: after every list of calls that leads to a state that the board holds, the list with this call and its answer leads to a state that the board then holds, and the promise is kept for it
+  pub record Played (before after : Board S R) (h : History) (call : Call) (answer : Answer) : Type 0 where
+    pub same-setup : setup-of coded rest count answers after ≡ setup-of coded rest count answers before
+    pub state-left : State
+    pub leads : Leads (setup-of coded rest count answers before) (h ▷ (call, answer)) state-left
+    pub holds : Holds after state-left
+    pub promise : Promise (setup-of coded rest count answers before) (h ▷ (call, answer))
+
+  abbrev pub KeepsThePromise : Board S R → Board S R → Call → Answer → Type 0
+  KeepsThePromise before after call answer = (h : History) (s : State) → Leads (setup-of coded rest count answers before) h s → Holds before s → Played before after h call answer
+
   -- a call does its step, after every list of calls that leads to the state that the board holds
   abbrev pub Follows : Board S R → Board S R → Call → Answer → Type 0
   Follows before after call answer = (h : History) (s : State) → Leads (setup-of coded rest count answers before) h s → Holds before s → Stepped before after call answer s
-
--- what a call tells, as a reply
-abbrev pub told : {A : Type 0} → (A → Reply) → Result A Refusal → Answer
-told reply (Ok x) = Ok (reply x)
-told reply (Err refusal) = Err refusal

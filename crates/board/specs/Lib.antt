@@ -5,3 +5,4 @@ pub mod Looks
 pub mod Ends
 pub mod Room
 pub mod Memory
+pub mod Commits

@@ -1,6 +1,8 @@
 // The board: eight calls over version memory that its owner lends.
 mod admissions;
 mod board;
+mod call;
+mod commits;
 mod ends;
 mod findings;
 mod looks;

@@ -3,12 +3,12 @@ ghost use mathlib.Core.Path.{_≡_};
 ghost use Prim.Native.Nat.{ℕ, _<_};
 ghost use lib.ListN.{set};
 ghost use Rattle.calls.specs.declared.call.Call.the-variants.{Read, Write as Writing};
-ghost use Rattle.calls.specs.declared.reply.Reply.the-variants.{Code, Done};
 ghost use Rattle.board.specs.Ends.{with-stamps};
-ghost use Rattle.board.specs.Holding.{Follows, told};
+ghost use Rattle.board.specs.Holding.{Follows};
 use crate::board::Board;
 use calls::Mode;
 use calls::Refusal;
+use calls::Reply;
 use kinds::Kind;
 use rules::Rule;
 use versions::Sight;
@@ -16,8 +16,8 @@ use versions::code_in_sight;
 
 impl<K: Kind, R: Rule> Board<'_, K, R> {
     // The code of an item: a reader sees by place, and an update transaction its own write, or by natural number.
-    pub(crate) fn read(&mut self, seat: u32, pass: u32, item: u32) -> Result<u32, Refusal>
-        ensures { λ r. ⌜ Follows (K·Kind .state) (K·Kind .coded) (K·Kind .rest) (K·Kind .count) (R·Rule .answers) (now (self .entry)) (now (self .exit)) (Read seat pass item) (told Code r) ⌝ }
+    pub(crate) fn read(&mut self, seat: u32, pass: u32, item: u32) -> Result<Reply, Refusal>
+        ensures { λ r. ⌜ Follows (K·Kind .state) (K·Kind .coded) (K·Kind .rest) (K·Kind .count) (R·Rule .answers) (now (self .entry)) (now (self .exit)) (Read seat pass item) r ⌝ }
     {
         let held = self.held_seat(seat, pass)?;
         let Some(mut txn) = held.running else {
@@ -28,15 +28,15 @@ impl<K: Kind, R: Rule> Board<'_, K, R> {
             Mode::Reader => {
                 let code = code_in_sight(self.slots(at), Sight::ByPlace, txn.start);
                 self.stamp(at);
-                Ok(code)
+                Ok(Reply::Code(code))
             }
             Mode::Update => match txn.listed(item) {
-                Some(code) => Ok(code),
+                Some(code) => Ok(Reply::Code(code)),
                 None => {
                     let code = code_in_sight(self.slots(at), Sight::ByNatural, txn.start);
                     txn.mark(at);
                     self.set_running(held.at, Some(txn));
-                    Ok(code)
+                    Ok(Reply::Code(code))
                 }
             },
         }
@@ -49,8 +49,8 @@ impl<K: Kind, R: Rule> Board<'_, K, R> {
         pass: u32,
         item: u32,
         code: u32,
-    ) -> Result<(), Refusal>
-        ensures { λ r. ⌜ Follows (K·Kind .state) (K·Kind .coded) (K·Kind .rest) (K·Kind .count) (R·Rule .answers) (now (self .entry)) (now (self .exit)) (Writing seat pass item code) (told (λ _. Done) r) ⌝ }
+    ) -> Result<Reply, Refusal>
+        ensures { λ r. ⌜ Follows (K·Kind .state) (K·Kind .coded) (K·Kind .rest) (K·Kind .count) (R·Rule .answers) (now (self .entry)) (now (self .exit)) (Writing seat pass item code) r ⌝ }
     {
         let held = self.held_seat(seat, pass)?;
         let Some(mut txn) = held.running else {
@@ -68,7 +68,7 @@ impl<K: Kind, R: Rule> Board<'_, K, R> {
             return Err(Refusal::WriteListFull);
         }
         self.set_running(held.at, Some(txn));
-        Ok(())
+        Ok(Reply::Done)
     }
 
     // The item's stamp is raised to the clock.

@@ -72,6 +72,28 @@ module _ {b : Setup} {s : State} {l : Log} (inv : Inv b s l) (class : Class) (x 
 not-ahead : (f g : Grant) → (Ahead f g → ⊥) → ahead f g ≡ false
 not-ahead f g far = (elim (ahead f g) as (λ k. ahead f g ≡ k → k ≡ false) [ true ↦ λ e. absurd (far (ahead-told f g e)) | false ↦ λ _. refl ]) refl
 
+-- every list reaches down to the least start of an open transaction, if it does to that of the one at hand
+pub reached-by-least : {b : Setup} {s : State} {l : Log} (inv : Inv b s l) (x : Transaction) → ((i : ℕ) → (v : Version) × (v ∈ s .items i .versions) × (v .natural ≤ x .start))
+    → (i : ℕ) → (v : Version) × (v ∈ s .items i .versions) × (v .natural ≤ least-start b s x)
+reached-by-least {b} {s} {l} inv x own i = ⊎-elim
+    (λ e. let w = own i in (w .0, w .1, omega (arith, w .2, e)))
+    (λ m.
+    let k = gather-in (b .seats) (λ seat. start-of (running-of (s .seats seat))) (least-start b s x) m in
+    go (k .0) (running-of (s .seats (k .0))) refl (k .2))
+    (least-in (x .start) (starts b s))
+  where
+    go : (k : ℕ) (o : Option Transaction) → running-of (s .seats k) ≡ o → least-start b s x ∈ start-of o → (v : Version) × (v ∈ s .items i .versions) × (v .natural ≤ least-start b s x)
+    go k None e m = elim m [ ]
+    go k (Some y) e m =
+        let at = board-has inv k y e in
+        let w = at .1 .both .reaches i in
+        let is : least-start b s x ≡ y .start = ⊎-elim (λ d. d) (λ j. elim j [ ]) (List·Memᴰ·cases-cons m) in
+        (w .0, w .1, omega (arith, w .2, at .1 .both .same-start, is))
+
+-- the same where a transaction is open
+pub open-reach : {b : Setup} {s : State} {l : Log} (inv : Inv b s l) (x : Transaction) (seat : ℕ) → running-of (s .seats seat) ≡ Some x → (i : ℕ) → (v : Version) × (v ∈ s .items i .versions) × (v .natural ≤ least-start b s x)
+open-reach inv x seat e = reached-by-least inv x (λ i. let at = board-has inv seat x e in let w = at .1 .both .reaches i in (w .0, w .1, omega (arith, w .2, at .1 .both .same-start)))
+
 -- the transaction x, traced by t, is granted the place
 module _ {b : Setup} {s : State} {l : Log} (inv : Inv b s l) (x : Transaction) (t : Trace) (r : Running b (s .clock) (l .calls) (s .items) (l .granted) x t)
     (updates : t .mode ≡ Update) (place : ℕ) (fair : Fair b s x place) where
@@ -190,20 +212,7 @@ module _ {b : Setup} {s : State} {l : Log} (inv : Inv b s l) (x : Transaction) (
       omega (arith, a .both .same-start, least-each (x .start) (starts b s) (y .start) (in-gather (b .seats) (λ seat. start-of (running-of (s .seats seat))) k (y .start) (inv .seated k u (a .in-log)) here))
 
   least-reached : (i : ℕ) → (v : Version) × (v ∈ s .items i .versions) × (v .natural ≤ least-start b s x)
-  least-reached i = ⊎-elim
-      (λ e. let w = r .reaches i in (w .0, w .1, omega (arith, w .2, r .same-start, e)))
-      (λ m.
-      let k = gather-in (b .seats) (λ seat. start-of (running-of (s .seats seat))) (least-start b s x) m in
-      go (k .0) (running-of (s .seats (k .0))) refl (k .2))
-      (least-in (x .start) (starts b s))
-    where
-      go : (k : ℕ) (o : Option Transaction) → running-of (s .seats k) ≡ o → least-start b s x ∈ start-of o → (v : Version) × (v ∈ s .items i .versions) × (v .natural ≤ least-start b s x)
-      go k None e m = elim m [ ]
-      go k (Some y) e m =
-          let at = board-has inv k y e in
-          let w = at .1 .both .reaches i in
-          let is : least-start b s x ≡ y .start = ⊎-elim (λ d. d) (λ j. elim j [ ]) (List·Memᴰ·cases-cons m) in
-          (w .0, w .1, omega (arith, w .2, at .1 .both .same-start, is))
+  least-reached = reached-by-least inv x (λ i. let w = r .reaches i in (w .0, w .1, omega (arith, w .2, r .same-start)))
 
   pub cut-is : (i : ℕ) → Cut (least-start b s x) (s .items i .versions) (cut-down b s x i)
   cut-is i = let w = least-reached i in cut-down-is (least-start b s x) (s .items i .versions) (w .0) (inv .keeps i .falling) (w .1) (w .2)
