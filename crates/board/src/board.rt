@@ -4,12 +4,12 @@ use versions::Version;
 
 #[derive(Drop)]
 pub struct Board<'m, K, R> {
-    pub items: usize,
-    pub seat_count: usize,
-    pub clock: u32,
-    pub passes: u32,
-    pub stamps: [u32; 256],
-    pub seats: [Seat; 32],
-    pub rule: R,
-    pub versions: &'m mut [Version<K>],
+    pub(crate) items: usize,
+    pub(crate) seat_count: usize,
+    pub(crate) clock: u32,
+    pub(crate) passes: u32,
+    pub(crate) stamps: [u32; 256],
+    pub(crate) seats: [Seat; 32],
+    pub(crate) rule: R,
+    pub(crate) versions: &'m mut [Version<K>],
 }

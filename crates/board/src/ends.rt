@@ -17,7 +17,7 @@ use rules::Rule;
 
 impl<K: Kind, R: Rule> Board<'_, K, R> {
     // The seat has this transaction open, or none.
-    pub fn set_running(&mut self, at: usize, running: Option<Transaction>)
+    pub(crate) fn set_running(&mut self, at: usize, running: Option<Transaction>)
         ensures { λ _. ⌜ (at < 32 → now (self .exit) ≡ with-seats (now (self .entry)) (set (now (self .entry) .seats) at (replaced running (getD (now (self .entry) .seats) at Empty)))) ⌝ }
     {
         if at < 32 {
@@ -35,7 +35,7 @@ impl<K: Kind, R: Rule> Board<'_, K, R> {
     }
 
     // The stamp of every marked item is raised to the clock.
-    pub fn raise_stamps(&mut self, txn: &Transaction)
+    pub(crate) fn raise_stamps(&mut self, txn: &Transaction)
         ensures { λ _. ⌜ Raised (now (self .entry)) (now (self .exit)) (now (txn .entry)) ⌝ }
     {
         for item in 0..self.items.min(256) {

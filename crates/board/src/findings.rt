@@ -20,7 +20,7 @@ use versions::count_missed;
 
 impl<K: Kind, R: Rule> Board<'_, K, R> {
     // The findings of an open transaction that asks to be granted.
-    pub fn findings(&self, class: Class, txn: &Transaction, next: u32) -> Findings
+    pub(crate) fn findings(&self, class: Class, txn: &Transaction, next: u32) -> Findings
         ensures { λ r. ⌜ ((s : State) (x : Running) → Holds (K·Kind .state) (K·Kind .coded) (K·Kind .rest) (K·Kind .count) (R·Rule .answers) (now (self .entry)) s → Runs (setup-of (K·Kind .coded) (K·Kind .rest) (K·Kind .count) (R·Rule .answers) (now (self .entry))) (now (txn .entry)) x → next ≡ now (self .entry) .clock + 1 → r ≡ findings (setup-of (K·Kind .coded) (K·Kind .rest) (K·Kind .count) (R·Rule .answers) (now (self .entry))) s class x) ⌝ }
     {
         let missed = self.missed(txn);
@@ -67,7 +67,7 @@ impl<K: Kind, R: Rule> Board<'_, K, R> {
     }
 
     // The lowest item of which a version was missed, or the count of items.
-    pub fn lowest_missed(&self, txn: &Transaction) -> u32
+    pub(crate) fn lowest_missed(&self, txn: &Transaction) -> u32
         ensures { λ r. ⌜ ((s : State) (x : Running) → Holds (K·Kind .state) (K·Kind .coded) (K·Kind .rest) (K·Kind .count) (R·Rule .answers) (now (self .entry)) s → Runs (setup-of (K·Kind .coded) (K·Kind .rest) (K·Kind .count) (R·Rule .answers) (now (self .entry))) (now (txn .entry)) x → r ≡ lowest (now (self .entry) .items) (λ item. ltb 0 (length (missed-of s x item)))) ⌝ }
     {
         let count = self.items.min(256);
@@ -99,7 +99,7 @@ impl<K: Kind, R: Rule> Board<'_, K, R> {
     }
 
     // The least start of an open transaction, the given one counted.
-    pub fn least_start(&self, start: u32) -> u32
+    pub(crate) fn least_start(&self, start: u32) -> u32
         ensures { λ r. ⌜ ((s : State) → Holds (K·Kind .state) (K·Kind .coded) (K·Kind .rest) (K·Kind .count) (R·Rule .answers) (now (self .entry)) s → r ≡ least-of start (starts (setup-of (K·Kind .coded) (K·Kind .rest) (K·Kind .count) (R·Rule .answers) (now (self .entry))) s)) ⌝ }
     {
         let mut least = start;

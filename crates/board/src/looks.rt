@@ -16,7 +16,7 @@ use versions::Version;
 
 impl<K: Kind, R: Rule> Board<'_, K, R> {
     // The index of a known item.
-    pub fn known_item(&self, item: u32) -> Result<usize, Refusal>
+    pub(crate) fn known_item(&self, item: u32) -> Result<usize, Refusal>
         ensures { λ r. ⌜ ((s : State) → Holds (K·Kind .state) (K·Kind .coded) (K·Kind .rest) (K·Kind .count) (R·Rule .answers) (now (self .entry)) s → ItemAsked (setup-of (K·Kind .coded) (K·Kind .rest) (K·Kind .count) (R·Rule .answers) (now (self .entry))) item s r) ⌝ }
     {
         let at = item as usize;
@@ -56,7 +56,7 @@ impl<K: Kind, R: Rule> Board<'_, K, R> {
     }
 
     // The held seat whose pass is shown.
-    pub fn held_seat(&self, seat: u32, pass: u32) -> Result<HeldSeat, Refusal>
+    pub(crate) fn held_seat(&self, seat: u32, pass: u32) -> Result<HeldSeat, Refusal>
         ensures { λ r. ⌜ ((s : State) → Holds (K·Kind .state) (K·Kind .coded) (K·Kind .rest) (K·Kind .count) (R·Rule .answers) (now (self .entry)) s → PassAsked (setup-of (K·Kind .coded) (K·Kind .rest) (K·Kind .count) (R·Rule .answers) (now (self .entry))) seat pass s r) ⌝ }
     {
         let at = seat as usize;
@@ -84,7 +84,7 @@ impl<K: Kind, R: Rule> Board<'_, K, R> {
     }
 
     // The slots of an item.
-    pub fn slots(&self, item: usize) -> &[Version<K>]
+    pub(crate) fn slots(&self, item: usize) -> &[Version<K>]
         ensures { λ r. ⌜ (8 * item + 8 ≤ length (now (now (self .entry) .versions)) → now r ≡ slots-of (now (now (self .entry) .versions)) item) ⌝ }
     {
         let all = &*self.versions;

@@ -15,7 +15,7 @@ use versions::has_room;
 
 impl<K: Kind, R: Rule> Board<'_, K, R> {
     // The lowest listed item whose versions would be too many, if there is one.
-    pub fn lowest_full(&self, txn: &Transaction, least: u32, place: u32) -> Option<u32>
+    pub(crate) fn lowest_full(&self, txn: &Transaction, least: u32, place: u32) -> Option<u32>
         ensures { λ r. ⌜ ((s : State) (x : Running) → Holds (K·Kind .state) (K·Kind .coded) (K·Kind .rest) (K·Kind .count) (R·Rule .answers) (now (self .entry)) s → Runs (setup-of (K·Kind .coded) (K·Kind .rest) (K·Kind .count) (R·Rule .answers) (now (self .entry))) (now (txn .entry)) x → Reaches least s → least ≡ least-start (setup-of (K·Kind .coded) (K·Kind .rest) (K·Kind .count) (R·Rule .answers) (now (self .entry))) s x → Cases r (lowest (now (self .entry) .items) (is-full (setup-of (K·Kind .coded) (K·Kind .rest) (K·Kind .count) (R·Rule .answers) (now (self .entry))) s x place) ≡ now (self .entry) .items) (λ item. (item ≡ lowest (now (self .entry) .items) (is-full (setup-of (K·Kind .coded) (K·Kind .rest) (K·Kind .count) (R·Rule .answers) (now (self .entry))) s x place)) × (item < now (self .entry) .items))) ⌝ }
     {
         let mut lowest = None;

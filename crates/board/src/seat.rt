@@ -15,7 +15,7 @@ pub enum Seat {
 // A held seat whose pass was shown.
 #[derive(Clone, Copy)]
 pub struct HeldSeat {
-    pub at: usize,
-    pub class: Class,
-    pub running: Option<Transaction>,
+    pub(crate) at: usize,
+    pub(crate) class: Class,
+    pub(crate) running: Option<Transaction>,
 }

@@ -16,7 +16,7 @@ use versions::store;
 
 impl<K: Kind, R: Rule> Board<'_, K, R> {
     // Stores what a granted transaction has listed.
-    pub fn store_all(&mut self, txn: &Transaction, least: u32, natural: u32, place: u32)
+    pub(crate) fn store_all(&mut self, txn: &Transaction, least: u32, natural: u32, place: u32)
         ensures only { λ _. ⌜ OnlyMemory (now (self .entry)) (now (self .exit)) ⌝ }
         ensures lists { λ _. ⌜ ((s : State) (x : Running) → Holds (K·Kind .state) (K·Kind .coded) (K·Kind .rest) (K·Kind .count) (R·Rule .answers) (now (self .entry)) s → Runs (setup-of (K·Kind .coded) (K·Kind .rest) (K·Kind .count) (R·Rule .answers) (now (self .entry))) (now (txn .entry)) x → Reaches least s → least ≡ least-start (setup-of (K·Kind .coded) (K·Kind .rest) (K·Kind .count) (R·Rule .answers) (now (self .entry))) s x → natural ≡ s .clock + 1 → ((item : ℕ) → item < now (self .entry) .items → is-full (setup-of (K·Kind .coded) (K·Kind .rest) (K·Kind .count) (R·Rule .answers) (now (self .entry))) s x place item ≡ false) → StoredAll (K·Kind .state) (K·Kind .coded) (setup-of (K·Kind .coded) (K·Kind .rest) (K·Kind .count) (R·Rule .answers) (now (self .entry))) s x place (x .writes) (now (now (self .exit) .versions))) ⌝ }
     {

@@ -16,15 +16,15 @@ pub const WRITES: usize = 8;
 
 #[derive(Clone, Copy)]
 pub struct Transaction {
-    pub mode: Mode,
-    pub start: u32,
-    pub marks: [bool; 256],
-    pub writes: [Write; 8],
-    pub count: usize,
+    pub(crate) mode: Mode,
+    pub(crate) start: u32,
+    pub(crate) marks: [bool; 256],
+    pub(crate) writes: [Write; 8],
+    pub(crate) count: usize,
 }
 
 impl Transaction {
-    pub fn new(mode: Mode, start: u32) -> Transaction
+    pub(crate) fn new(mode: Mode, start: u32) -> Transaction
         ensures mode { λ r. ⌜ r .mode ≡ mode ⌝ }
         ensures start { λ r. ⌜ r .start ≡ start ⌝ }
         ensures marks { λ r. ⌜ r .marks ≡ replicate 256 false ⌝ }
@@ -40,7 +40,7 @@ impl Transaction {
     }
 
     // The write list.
-    pub fn writes_listed(&self) -> &[Write]
+    pub(crate) fn writes_listed(&self) -> &[Write]
         ensures value { λ r. ⌜ now r ≡ write-list (now (self .entry)) ⌝ }
         ensures within { λ r. ⌜ length (now r) ≤ 8 ⌝ }
         ensures whole { λ _. ⌜ length (now (self .entry) .writes) ≡ 8 ⌝ }
@@ -50,7 +50,7 @@ impl Transaction {
     }
 
     // The code listed for an item.
-    pub fn listed(&self, item: u32) -> Option<u32>
+    pub(crate) fn listed(&self, item: u32) -> Option<u32>
         ensures { λ r. ⌜ r ≡ listed item (write-list (now (self .entry))) ⌝ }
     {
         let writes = self.writes_listed();
@@ -63,7 +63,7 @@ impl Transaction {
     }
 
     // Marks an item as read.
-    pub fn mark(&mut self, item: usize)
+    pub(crate) fn mark(&mut self, item: usize)
         ensures { λ _. ⌜ (item < 256 → now (self .exit) ≡ with-marks (now (self .entry)) (set (now (self .entry) .marks) item true)) ⌝ }
     {
         if item < 256 {
@@ -72,7 +72,7 @@ impl Transaction {
     }
 
     // Lists a code, or replaces the one listed; false where eight other items are.
-    pub fn list(&mut self, item: u32, code: u32) -> bool
+    pub(crate) fn list(&mut self, item: u32, code: u32) -> bool
         ensures room { λ r. ⌜ r ≡ (isSome (listed item (write-list (now (self .entry)))) || ltb (length (write-list (now (self .entry)))) 8) ⌝ }
         ensures listed { λ r. ⌜ write-list (now (self .exit)) ≡ cond r (list-code item code (write-list (now (self .entry)))) (write-list (now (self .entry))) ⌝ }
         ensures mode { λ _. ⌜ now (self .exit) .mode ≡ now (self .entry) .mode ⌝ }

@@ -4,7 +4,7 @@ ghost use Rattle.std.specs.Options.{mapped};
 ghost use Rattle.script.specs.Parts.{until, after, value-in};
 
 // The bytes before the first `mark`, and those after it if there is one.
-pub fn cut_once(bytes: &[u8], mark: u8) -> (&[u8], Option<&[u8]>)
+pub(crate) fn cut_once(bytes: &[u8], mark: u8) -> (&[u8], Option<&[u8]>)
     ensures front { λ r. ⌜ now (r .0) ≡ until mark (now (bytes .entry)) ⌝ }
     ensures rest { λ r. ⌜ mapped (λ x. now x) (r .1) ≡ after mark (now (bytes .entry)) ⌝ }
 {

@@ -31,7 +31,7 @@ pub struct Scanner<'l> {
 
 impl<'l> Scanner<'l> {
     // Before the first part of a line.
-    pub fn new(line: &'l [u8]) -> Scanner<'l>
+    pub(crate) fn new(line: &'l [u8]) -> Scanner<'l>
         requires { ⌜ length (now line) ≤ 96 ⌝ }
         ensures at { λ r. ⌜ r .at ≡ 0 ⌝ }
         ensures rest { λ r. ⌜ parts (r .rest) ≡ cut 32 (now (line .entry)) ⌝ }
@@ -72,7 +72,7 @@ impl<'l> Scanner<'l> {
     }
 
     // The number of the next pair.
-    pub fn number(&mut self, key: &[u8]) -> Result<u32, Fault>
+    pub(crate) fn number(&mut self, key: &[u8]) -> Result<u32, Fault>
         ensures value { λ r. ⌜ r ≡ number-at (now (key .entry)) (now (self .entry) .at) (parts (now (self .entry) .rest)) ⌝ }
         ensures at { λ _. ⌜ now (self .exit) .at ≡ next (now (self .entry) .at) (parts (now (self .entry) .rest)) ⌝ }
         ensures rest { λ _. ⌜ parts (now (self .exit) .rest) ≡ left (parts (now (self .entry) .rest)) ⌝ }
@@ -84,7 +84,7 @@ impl<'l> Scanner<'l> {
     }
 
     // The word of the next pair.
-    pub fn word<W: Listed>(&mut self, key: &[u8]) -> Result<W, Fault>
+    pub(crate) fn word<W: Listed>(&mut self, key: &[u8]) -> Result<W, Fault>
         ensures value { λ r. ⌜ r ≡ word-at (W·Listed .spelled) (W·Listed .every) (now (key .entry)) (now (self .entry) .at) (parts (now (self .entry) .rest)) ⌝ }
         ensures at { λ _. ⌜ now (self .exit) .at ≡ next (now (self .entry) .at) (parts (now (self .entry) .rest)) ⌝ }
         ensures rest { λ _. ⌜ parts (now (self .exit) .rest) ≡ left (parts (now (self .entry) .rest)) ⌝ }
@@ -95,7 +95,7 @@ impl<'l> Scanner<'l> {
     }
 
     // That no part is left.
-    pub fn end(&self) -> Result<(), Fault>
+    pub(crate) fn end(&self) -> Result<(), Fault>
         ensures { λ r. ⌜ r ≡ end-at (now (self .entry) .at) (parts (now (self .entry) .rest)) ⌝ }
     {
         match self.rest {

@@ -15,7 +15,7 @@ pub enum Token<'s> {
 }
 
 impl<'s> Token<'s> {
-    pub fn new(at: usize, text: &'s [u8]) -> Token<'s>
+    pub(crate) fn new(at: usize, text: &'s [u8]) -> Token<'s>
         ensures at { λ r. ⌜ start r ≡ at ⌝ }
         ensures text { λ r. ⌜ text-of r ≡ now (text .entry) ⌝ }
         ensures case { λ r. ⌜ numeric r ≡ is-number (now (text .entry)) ⌝ }
@@ -27,7 +27,7 @@ impl<'s> Token<'s> {
         }
     }
 
-    pub fn text(&self) -> &'s [u8]
+    pub(crate) fn text(&self) -> &'s [u8]
         ensures { λ r. ⌜ now r ≡ text-of (now (self .entry)) ⌝ }
     {
         match self {
@@ -48,7 +48,7 @@ fn all_digits(text: &[u8]) -> bool
     true
 }
 
-pub fn is_number(text: &[u8]) -> bool
+pub(crate) fn is_number(text: &[u8]) -> bool
     ensures { λ r. ⌜ r ≡ is-number (now (text .entry)) ⌝ }
 {
     let [first, ..] = text else {
@@ -58,7 +58,7 @@ pub fn is_number(text: &[u8]) -> bool
 }
 
 // What its digits write.
-pub fn number_value(text: &[u8]) -> u32
+pub(crate) fn number_value(text: &[u8]) -> u32
     requires { ⌜ is-number (now text) ≡ true ⌝ }
     ensures { λ r. ⌜ r ≡ value (now (text .entry)) ⌝ }
 {

@@ -38,7 +38,7 @@ pub trait Listed: Copy + 'static {
 }
 
 // The word of the list that is spelled so.
-pub fn meant<W: Listed>(text: &[u8]) -> Option<W>
+pub(crate) fn meant<W: Listed>(text: &[u8]) -> Option<W>
     ensures { λ r. ⌜ r ≡ meant (W·Listed .spelled) (W·Listed .every) (now (text .entry)) ⌝ }
 {
     for word in W::all() {
