@@ -1,4 +1,6 @@
-// The board: eight calls over version memory that its owner lends.
+//! The board: eight calls over version memory that its owner lends.
+#![tactic(auto)]
+
 mod admissions;
 mod board;
 mod call;

@@ -1,4 +1,6 @@
-// The vocabulary of the board: what can be asked of it, what it replies and why it refuses.
+//! The vocabulary of the board: what can be asked of it, what it replies and why it refuses.
+#![tactic(auto)]
+
 mod call;
 mod fault;
 mod header;

@@ -1,4 +1,6 @@
-// Plays the stored scripts and compares what they are answered with the stored answers, which the reference program gave.
+//! Plays the stored scripts and compares what they are answered with the stored answers, which the reference program gave.
+#![tactic(auto)]
+
 mod answers;
 mod compare;
 mod tally;

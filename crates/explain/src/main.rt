@@ -1,4 +1,6 @@
-// Reads a script from standard input and tells in words what each of its writes would store. Nothing is played.
+//! Reads a script from standard input and tells in words what each of its writes would store. Nothing is played.
+#![tactic(auto)]
+
 mod text;
 mod words;
 

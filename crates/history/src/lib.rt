@@ -1,4 +1,6 @@
-// The board as a model, and what every list of calls on it is promised. Each function states a theorem and does nothing.
+//! The board as a model, and what every list of calls on it is promised. Each function states a theorem and does nothing.
+#![tactic(auto)]
+
 ghost use Rattle.history.specs.Examples.{EachExampleComesOut};
 ghost use Rattle.history.specs.Premises.{PremisesCanBeMet};
 ghost use Rattle.history.specs.Progress.{UndisturbedCommitsGoThrough, OnlyTheRuleRefuses, OnlyFullListsRefuse, NaturalsCountGrants};

@@ -1,4 +1,6 @@
-// The kinds of items that a board can hold.
+//! The kinds of items that a board can hold.
+#![tactic(auto)]
+
 mod kind;
 mod locomotive;
 #[cfg(test)]

@@ -1,5 +1,7 @@
-// Reads a script from standard input and answers each of its lines: whether it is well formed, and if not, why and where. Nothing is
-// played.
+//! Reads a script from standard input and answers each of its lines: whether it is well formed, and if not, why and where. Nothing is
+//! played.
+#![tactic(auto)]
+
 mod answers;
 
 use crate::answers::answer_script;

@@ -1,4 +1,6 @@
-// Plays a script from standard input on a new board and answers each of its lines.
+//! Plays a script from standard input on a new board and answers each of its lines.
+#![tactic(auto)]
+
 use player::play_script;
 use script::SCRIPT_LIMIT;
 use std::io;

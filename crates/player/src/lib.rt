@@ -1,4 +1,6 @@
-// Scripts, played on a board.
+//! Scripts, played on a board.
+#![tactic(auto)]
+
 mod lines;
 mod memory;
 mod scripts;

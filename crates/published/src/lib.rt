@@ -1,4 +1,6 @@
-// The board against the published time-warp multi-version algorithm. Each function states a theorem and does nothing.
+//! The board against the published time-warp multi-version algorithm. Each function states a theorem and does nothing.
+#![tactic(auto)]
+
 ghost use Rattle.published.specs.Beside.{BoardFollowsPublished, SparedIsRefused};
 
 // Under the rule `warp`, for every list of calls from a new board, the board and the published algorithm run beside it answer alike and keep alike.

@@ -1,4 +1,6 @@
-// The admission rules: whether a transaction is granted, and at which place.
+//! The admission rules: whether a transaction is granted, and at which place.
+#![tactic(auto)]
+
 mod findings;
 mod home;
 mod named;

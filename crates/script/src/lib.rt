@@ -1,4 +1,6 @@
-// The lines of a script: from bytes to calls, and from outcomes to answer lines.
+//! The lines of a script: from bytes to calls, and from outcomes to answer lines.
+#![tactic(auto)]
+
 mod answer;
 mod answers;
 mod cut;

@@ -1,4 +1,6 @@
-// The board for C: a whole list of requests is played on a new board, and each is answered.
+//! The board for C: a whole list of requests is played on a new board, and each is answered.
+#![tactic(auto)]
+
 mod answer;
 mod request;
 mod run;

@@ -1,4 +1,6 @@
-// An item's list of versions in its slots: head first, and rest versions behind it.
+//! An item's list of versions in its slots: head first, and rest versions behind it.
+#![tactic(auto)]
+
 mod slots;
 mod version;
 

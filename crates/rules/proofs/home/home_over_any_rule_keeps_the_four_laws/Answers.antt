@@ -1,4 +1,4 @@
 use Rattle.rules.proofs.home.home_over_any_rule_keeps_the_four_laws.Goals as goal
 
 pub returns : goal.returns
-returns g c rule = c.each-rule-keeps-the-four-laws.ensures (record { below = rule })
+returns g c rule = c.each_rule_keeps_the_four_laws.ensures (record { below = rule })

@@ -13,7 +13,7 @@ returns-in-err-strip-prefix c =
 
 pub returns : goal.returns
 returns c =
-    let value = c.in-ok-strip-prefix.field-0 in
-    let front = strip_prefix_is Decides-eqb _ c.args.key.now (Some value) c.in-ok-strip-prefix.ensures.cases in
-    let e = past_two c.args.key.now (codes "=") _ c.strip-prefix-2.result _ front (strip_prefix_is Decides-eqb _ (codes "=") _ c.strip-prefix-2.ensures.cases) in
-    e ∙ ap (past (c.args.key.now ++ codes "=")) c.cut-once.ensures.front
+    let value = c.in_ok-strip_prefix.field-0 in
+    let front = strip_prefix_is Decides-eqb _ c.args.key.now (Some value) c.in_ok-strip_prefix.ensures.cases in
+    let e = past_two c.args.key.now (codes "=") _ c.strip_prefix-2.result _ front (strip_prefix_is Decides-eqb _ (codes "=") _ c.strip_prefix-2.ensures.cases) in
+    e ∙ ap (past (c.args.key.now ++ codes "=")) c.cut_once.ensures.front

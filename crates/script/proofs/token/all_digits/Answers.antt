@@ -10,7 +10,7 @@ returns-then-not-is-ascii-digit c =
 
 pub loop-byte-preserved : goal.loop-byte-preserved
 loop-byte-preserved c =
-    digits_more c.args.text.now c.loop-byte.byte-index _ c.loop-byte-test.true c.if-not-is-ascii-digit.ensures.value c.loop-byte.invariant
+    digits_more c.args.text.now c.loop-byte.byte-index _ c.loop-byte-test.true c.if-not-is_ascii_digit.ensures.value c.loop-byte.invariant
 
 pub returns : goal.returns
 returns c = sym (at_drop_all all_ascii_digits c.args.text.now c.loop-byte.byte-index (omega arith)) ∙ c.loop-byte.invariant

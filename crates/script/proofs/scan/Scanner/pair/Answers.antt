@@ -21,6 +21,6 @@ pub returns-in-None : goal.returns-in-None
 returns-in-None c =
     record {
       value = (first_value c.args.key.now _ _ _ c.in-Some.is c.in-None.ensures, refl);
-      at = c.skip-part.ensures.at;
-      rest = c.skip-part.ensures.rest;
+      at = c.skip_part.ensures.at;
+      rest = c.skip_part.ensures.rest;
     }
