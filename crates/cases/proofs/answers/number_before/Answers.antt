@@ -10,5 +10,5 @@ returns-then-byte-end c =
 
 pub loop-i-preserved : goal.loop-i-preserved
 loop-i-preserved c =
-    let digit = c.if-not-is-ascii-digit.ensures.cases in
+    let digit = c.if-not-is_ascii_digit.ensures.cases in
     (omega (arith, c.if-n.false, digit.1), (λ h. digit_more c.args.bytes.now c.loop-i.i c.loop-i.n c.loop-i-test.true digit.0 digit.1 (omega (arith, c.if-n.false)) c.loop-i.invariant.1 c.loop-i.invariant.2 (some_number c.loop-i.i c.loop-i.n c.if-n-eq0.either)), (λ h. omega (arith, h)))

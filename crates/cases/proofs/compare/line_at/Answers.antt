@@ -4,7 +4,7 @@ use Rattle.cases.proofs.Parting.{passed, line_here, no_line_here}
 use Rattle.cases.proofs.compare.line_at.Goals as goal
 
 pub loop-passed-preserved : goal.loop-passed-preserved
-loop-passed-preserved c = passed c.next-line.result (lines_of c.args.text.now) _ _ c.loop-passed.-passed c.next-line.ensures c.loop-passed.invariant
+loop-passed-preserved c = passed c.next_line.result (lines_of c.args.text.now) _ _ c.loop-passed.-passed c.next_line.ensures c.loop-passed.invariant
 
 pub returns-in-Some : goal.returns-in-Some
 returns-in-Some c =

@@ -4,4 +4,4 @@ use Rattle.explain.proofs.text.explain_line.Goals as goal
 
 pub returns : goal.returns
 returns c =
-    IfOk-weaker c.format.result _ _ (λ s h. write_told _ _ _ _ _ _ c.in-Some.ensures c.in-ok-words.ensures h) c.format.ensures.ok
+    IfOk-weaker c.format.result _ _ (λ s h. write_told _ _ _ _ _ _ c.in-Some.ensures c.in_ok-words.ensures h) c.format.ensures.ok

@@ -9,10 +9,10 @@ loop-line-init g c = at_start _ _ _ _ _ c.args.board.now (to_come c.args.lines) 
 
 pub loop-line-preserved : goal.loop-line-preserved
 loop-line-preserved g c =
-    let line = c.play-line-len.ensures in
-    one_line_more g.K.Kind.state g.K.Kind.coded g.K.Kind.rest g.K.Kind.count g.R.Rule.answers c.args.board.now c.loop-line.board c.play-line-len.new.board
-    (to_come c.args.lines) (to_come c.loop-line.lines) (to_come c.next-line.new.self) c.loop-line.number c.next-line-number-number.result c.in-Some.line.now (vec_items c.loop-line.answers) (vec_items c.extend-from-slice.new.self) line.outcome
-    c.in-Some.ensures c.next-line-number-number.ensures (c.in-ok-extend-from-slice.ensures.items ∙ ap (λ t. vec_items c.loop-line.answers ++ t) (front _ _ _ line.bytes line.long)) line.line_told c.loop-line.invariant
+    let line = c.play_line-len.ensures in
+    one_line_more g.K.Kind.state g.K.Kind.coded g.K.Kind.rest g.K.Kind.count g.R.Rule.answers c.args.board.now c.loop-line.board c.play_line-len.new.board
+    (to_come c.args.lines) (to_come c.loop-line.lines) (to_come c.next_line.new.self) c.loop-line.number c.next_line_number-number.result c.in-Some.line.now (vec_items c.loop-line.answers) (vec_items c.extend_from_slice.new.self) line.outcome
+    c.in-Some.ensures c.next_line_number-number.ensures (c.in_ok-extend_from_slice.ensures.items ∙ ap (λ t. vec_items c.loop-line.answers ++ t) (front _ _ _ line.bytes line.long)) line.line_told c.loop-line.invariant
 
 pub returns : goal.returns
 returns g c =
@@ -23,4 +23,4 @@ returns g c =
       up_to_missed = g.met.R.Rule.granted_place_is_not_above_missed rule;
       next_if_overtaken = g.met.R.Rule.overtaken_is_granted_next_only rule;
       next_if_none_missed = g.met.R.Rule.nothing_missed_is_granted_next rule;
-    }) c.in-default.ensures.0 c.loop-line.invariant
+    }) c.in_default.ensures.0 c.loop-line.invariant

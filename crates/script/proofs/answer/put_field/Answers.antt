@@ -3,16 +3,16 @@ use Rattle.script.proofs.Figures.{shown_short}
 use Rattle.script.proofs.Pasting.{grown}
 use Rattle.script.proofs.answer.put_field.Goals as goal
 
-pub put-number-last-requires : goal.put-number-last-requires
-put-number-last-requires c = omega (arith, ap (λ m. length (decimal m)) c.min.ensures, shown_short c.args.n)
+pub put_number-last-requires : goal.put_number-last-requires
+put_number-last-requires c = omega (arith, ap (λ m. length (decimal m)) c.min.ensures, shown_short c.args.n)
 
-pub put-byte-requires : goal.put-byte-requires
-put-byte-requires c = omega (arith, c.put-number-last.ensures.end, ap (λ m. length (decimal m)) c.min.ensures, shown_short c.args.n)
+pub put_byte-requires : goal.put_byte-requires
+put_byte-requires c = omega (arith, c.put_number-last.ensures.end, ap (λ m. length (decimal m)) c.min.ensures, shown_short c.args.n)
 
 pub returns : goal.returns
 returns c =
-    let digits = c.put-number-last.ensures in
-    let last = c.put-byte.ensures in
+    let digits = c.put_number-last.ensures in
+    let last = c.put_byte.ensures in
     let same = ap decimal c.min.ensures in
     record {
       end = omega (arith, last.end, digits.end, ap length same);

@@ -4,9 +4,9 @@ use Rattle.std.proofs.lemmas.List.{at_drop_all}
 use Rattle.script.proofs.Figures.{digits_more}
 use Rattle.script.proofs.token.all_digits.Goals as goal
 
-pub returns-then-not-is-ascii-digit : goal.returns-then-not-is-ascii-digit
-returns-then-not-is-ascii-digit c =
-    digits_more c.args.text.now c.loop-byte.byte-index _ c.loop-byte-test.true c.if-not-is-ascii-digit.ensures.value c.loop-byte.invariant
+pub returns-then-not-is_ascii_digit : goal.returns-then-not-is_ascii_digit
+returns-then-not-is_ascii_digit c =
+    digits_more c.args.text.now c.loop-byte.byte-index _ c.loop-byte-test.true c.if-not-is_ascii_digit.ensures.value c.loop-byte.invariant
 
 pub loop-byte-preserved : goal.loop-byte-preserved
 loop-byte-preserved c =

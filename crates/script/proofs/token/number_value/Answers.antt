@@ -4,14 +4,14 @@ use Rattle.script.specs.Numbers.{value_after}
 use Rattle.script.proofs.Figures.{digit}
 use Rattle.script.proofs.token.number_value.Goals as goal
 
-pub overflow-mul-n : goal.overflow-mul-n
-overflow-mul-n c = omega (arith, (digit c.args.text.now c.loop-digit.digit-index c.loop-digit.n c.requires c.loop-digit-test.true c.loop-digit.invariant).small)
+pub overflow_mul-n : goal.overflow_mul-n
+overflow_mul-n c = omega (arith, (digit c.args.text.now c.loop-digit.digit-index c.loop-digit.n c.requires c.loop-digit-test.true c.loop-digit.invariant).small)
 
-pub overflow-sub-n : goal.overflow-sub-n
-overflow-sub-n c = (digit c.args.text.now c.loop-digit.digit-index c.loop-digit.n c.requires c.loop-digit-test.true c.loop-digit.invariant).low
+pub overflow_sub-n : goal.overflow_sub-n
+overflow_sub-n c = (digit c.args.text.now c.loop-digit.digit-index c.loop-digit.n c.requires c.loop-digit-test.true c.loop-digit.invariant).low
 
-pub overflow-add-n : goal.overflow-add-n
-overflow-add-n c = omega (arith, (digit c.args.text.now c.loop-digit.digit-index c.loop-digit.n c.requires c.loop-digit-test.true c.loop-digit.invariant).small)
+pub overflow_add-n : goal.overflow_add-n
+overflow_add-n c = omega (arith, (digit c.args.text.now c.loop-digit.digit-index c.loop-digit.n c.requires c.loop-digit-test.true c.loop-digit.invariant).small)
 
 pub loop-digit-preserved : goal.loop-digit-preserved
 loop-digit-preserved c = (digit c.args.text.now c.loop-digit.digit-index c.loop-digit.n c.requires c.loop-digit-test.true c.loop-digit.invariant).next

@@ -4,7 +4,7 @@ use Rattle.station.proofs.run.answer_all.Goals as goal
 
 pub loop-i-preserved : goal.loop-i-preserved
 loop-i-preserved g c =
-    reached_more g.K.Kind.state g.K.Kind.coded g.K.Kind.rest g.K.Kind.count g.R.Rule.answers c.args.board.now c.loop-i.board c.answer-one.new.board c.args.requests.now c.loop-i.i _ c.loop-i.answers c.answer-one.result (search rules) c.loop-i-test.true c.loop-i.invariant c.answer-one.ensures
+    reached_more g.K.Kind.state g.K.Kind.coded g.K.Kind.rest g.K.Kind.count g.R.Rule.answers c.args.board.now c.loop-i.board c.answer_one.new.board c.args.requests.now c.loop-i.i _ c.loop-i.answers c.answer_one.result (search rules) c.loop-i-test.true c.loop-i.invariant c.answer_one.ensures
 
 pub returns : goal.returns
 returns g c =

@@ -14,5 +14,5 @@ returns-then-at-slots g c b e =
 pub returns-else-at-slots : goal.returns-else-at-slots
 returns-else-at-slots g c b e =
     let is = c.find-at.ensures in
-    c.code-else-at-slots.ensures ∙ ap g.K.Kind.coded c.at-rest.ensures ∙ sym e
+    c.code-else-at-slots.ensures ∙ ap g.K.Kind.coded c.at_rest.ensures ∙ sym e
     ∙ sym (ap (λ (v : Kept). v.code) (newest_lost g.K.Kind.coded b c.args.sight c.args.limit c.args.slots.now (omega (arith, is))))

@@ -6,4 +6,4 @@ pub returns-then-slots-gt0 : goal.returns-then-slots-gt0
 returns-then-slots-gt0 g c b e = c.code.ensures ∙ sym (head_found g.K.Kind.coded b c.args.slots.now _ c.if-slots-gt0.true)
 
 pub returns-else-slots-gt0 : goal.returns-else-slots-gt0
-returns-else-slots-gt0 g c b e = c.code-else-slots-gt0.ensures ∙ ap g.K.Kind.coded c.at-rest.ensures ∙ sym e ∙ sym (head_lost g.K.Kind.coded b c.args.slots.now c.if-slots-gt0.false)
+returns-else-slots-gt0 g c b e = c.code-else-slots-gt0.ensures ∙ ap g.K.Kind.coded c.at_rest.ensures ∙ sym e ∙ sym (head_lost g.K.Kind.coded b c.args.slots.now c.if-slots-gt0.false)

@@ -4,5 +4,5 @@ use Rattle.board.proofs.board.Board.abandon.Goals as goal
 
 pub returns : goal.returns
 returns g c h s l k =
-    abandons _ _ _ _ _ c.args.self.now c.set_running.new.self c.args.seat c.args.pass c.in-ok-held.held s k (c.in-ok-held.ensures s k)
-    (c.is-none.ensures ∙ ap not c.if-is-none.false) c.set_running.ensures
+    abandons _ _ _ _ _ c.args.self.now c.set_running.new.self c.args.seat c.args.pass c.in_ok-held.held s k (c.in_ok-held.ensures s k)
+    (c.is_none.ensures ∙ ap not c.if-is_none.false) c.set_running.ensures

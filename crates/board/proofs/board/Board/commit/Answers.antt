@@ -4,11 +4,11 @@ use Rattle.board.proofs.board.Board.commit.Goals as goal
 
 pub returns-in-Reader : goal.returns-in-Reader
 returns-in-Reader g c h s l k =
-    ends_reader _ _ _ _ _ c.args.self.now c.set_running.new.self c.args.seat c.args.pass c.in-ok-held.held c.in-Some.txn s k (c.in-ok-held.ensures s k) c.in-Some.is c.in-Reader.is c.set_running.ensures
+    ends_reader _ _ _ _ _ c.args.self.now c.set_running.new.self c.args.seat c.args.pass c.in_ok-held.held c.in-Some.txn s k (c.in_ok-held.ensures s k) c.in-Some.is c.in-Reader.is c.set_running.ensures
 
 pub returns-in-Update : goal.returns-in-Update
 returns-in-Update g c h s l k =
-    ends_update _ _ _ _ _ c.args.self.now c.commit-update.new.self c.args.seat c.args.pass c.in-ok-held.held c.in-Some.txn _ h s laws l k (c.in-ok-held.ensures s k) c.in-Some.is c.in-Update.is c.commit-update.ensures
+    ends_update _ _ _ _ _ c.args.self.now c.commit_update.new.self c.args.seat c.args.pass c.in_ok-held.held c.in-Some.txn _ h s laws l k (c.in_ok-held.ensures s k) c.in-Some.is c.in-Update.is c.commit_update.ensures
   where
     laws : FourLaws (g.R.Rule.answers c.args.self.now.rule)
     laws = record {

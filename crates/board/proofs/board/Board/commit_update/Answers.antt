@@ -7,8 +7,8 @@ returns-then-self-ge-LIMIT g c s x k r lt reach = stopped _ _ _ _ _ c.args.self.
 
 pub returns-in-None : goal.returns-in-None
 returns-in-None g c s x k r lt reach =
-    refused_by_rule _ _ _ _ _ c.args.self.now c.end.new.self c.args.at c.lowest-missed-item.result c.args.class c.args.txn.now x s c.findings-findings.result c.decide.result k r lt
-    c.if-self-ge-LIMIT.false (c.findings-findings.ensures s x k r refl) c.decide.ensures c.in-None.is (c.lowest-missed-item.ensures s x k r) c.end.ensures
+    refused_by_rule _ _ _ _ _ c.args.self.now c.end.new.self c.args.at c.lowest_missed-item.result c.args.class c.args.txn.now x s c.findings-findings.result c.decide.result k r lt
+    c.if-self-ge-LIMIT.false (c.findings-findings.ensures s x k r refl) c.decide.ensures c.in-None.is (c.lowest_missed-item.ensures s x k r) c.end.ensures
 
 pub returns-in-Some : goal.returns-in-Some
 returns-in-Some g c s x k r lt reach =

@@ -12,7 +12,7 @@ loop-item-preserved g c =
       | then-txn-item w ↦
           missed_marked _ _ _ _ _ c.args.self.now c.args.txn.now c.loop-item.item c.loop-item.missed c.if-txn-item.missed w.slots.result.now
           (omega (arith, c.min-item-end.ensures, c.loop-item-test.true)) w.if-txn-item.true w.slots.ensures
-          (λ co vs t. subst (λ m. Tells m (vs ++ newer c.args.txn.now.start (as_codes co w.slots.result.now))) (sym w.missed-is) (w.count-missed-missed.ensures co vs t)) c.loop-item.invariant
+          (λ co vs t. subst (λ m. Tells m (vs ++ newer c.args.txn.now.start (as_codes co w.slots.result.now))) (sym w.missed-is) (w.count_missed-missed.ensures co vs t)) c.loop-item.invariant
       | else-txn-item w ↦
           missed_unmarked _ _ _ _ _ c.args.self.now c.args.txn.now c.loop-item.item c.if-txn-item.missed
           (omega (arith, c.min-item-end.ensures, c.loop-item-test.true)) w.if-txn-item.false

@@ -10,11 +10,11 @@ use Rattle.board.proofs.transaction.Transaction.list.Goals as goal
 pub returns-then-at-ge-WRITES : goal.returns-then-at-ge-WRITES
 returns-then-at-ge-WRITES c =
     let t = c.args.self.now in
-    let is = c.find-item-at.ensures ∙ ap (first_index (is_for c.args.item)) c.writes-listed-writes.ensures.value in
-    let long = ap length c.writes-listed-writes.ensures.value in
+    let is = c.find_item-at.ensures ∙ ap (first_index (is_for c.args.item)) c.writes_listed-writes.ensures.value in
+    let long = ap length c.writes_listed-writes.ensures.value in
     let within = first_index_within (is_for c.args.item) (write_list t) in
     record {
-      room = sym (or_from (is_some (listed c.args.item (write_list t))) _ (ap is_some (listed_lost c.args.item (write_list t) (omega (arith, c.writes-listed-writes.ensures.within, c.if-at-ge-WRITES.true)))) (le-ltb _ _ (omega (arith, c.if-at-ge-WRITES.true))));
+      room = sym (or_from (is_some (listed c.args.item (write_list t))) _ (ap is_some (listed_lost c.args.item (write_list t) (omega (arith, c.writes_listed-writes.ensures.within, c.if-at-ge-WRITES.true)))) (le-ltb _ _ (omega (arith, c.if-at-ge-WRITES.true))));
       listed = refl;
       mode = refl;
       start = refl;
@@ -24,11 +24,11 @@ returns-then-at-ge-WRITES c =
 pub returns-then-at-count : goal.returns-then-at-count
 returns-then-at-count c =
     let t = c.args.self.now in
-    let is = c.find-item-at.ensures ∙ ap (first_index (is_for c.args.item)) c.writes-listed-writes.ensures.value in
-    let long = ap length c.writes-listed-writes.ensures.value in
+    let is = c.find_item-at.ensures ∙ ap (first_index (is_for c.args.item)) c.writes_listed-writes.ensures.value in
+    let long = ap length c.writes_listed-writes.ensures.value in
     record {
       room = sym (or_right (is_some (listed c.args.item (write_list t))) _ (lt-ltb _ _ (omega (arith, c.if-at-count.true, c.if-at-ge-WRITES.false))));
-      listed = ap (λ n. take (n + 1) (set t.writes c.find-item-at.result (record { item = c.args.item; code = c.args.code }))) (sym c.if-at-count.true) ∙ listed_new t.writes t.count c.args.item c.args.code c.writes-listed-writes.ensures.whole c.find-item-at.result is (omega (arith, c.if-at-count.true)) (omega (arith, c.if-at-ge-WRITES.false));
+      listed = ap (λ n. take (n + 1) (set t.writes c.find_item-at.result (record { item = c.args.item; code = c.args.code }))) (sym c.if-at-count.true) ∙ listed_new t.writes t.count c.args.item c.args.code c.writes_listed-writes.ensures.whole c.find_item-at.result is (omega (arith, c.if-at-count.true)) (omega (arith, c.if-at-ge-WRITES.false));
       mode = refl;
       start = refl;
       marks = refl;
@@ -37,10 +37,10 @@ returns-then-at-count c =
 pub returns-else-at-count : goal.returns-else-at-count
 returns-else-at-count c =
     let t = c.args.self.now in
-    let is = c.find-item-at.ensures ∙ ap (first_index (is_for c.args.item)) c.writes-listed-writes.ensures.value in
-    let long = ap length c.writes-listed-writes.ensures.value in
+    let is = c.find_item-at.ensures ∙ ap (first_index (is_for c.args.item)) c.writes_listed-writes.ensures.value in
+    let long = ap length c.writes_listed-writes.ensures.value in
     let within = first_index_within (is_for c.args.item) (write_list t) in
-    let again = listed_again t.writes t.count c.args.item c.args.code c.writes-listed-writes.ensures.whole c.find-item-at.result is (omega (arith, c.if-at-count.false)) in
+    let again = listed_again t.writes t.count c.args.item c.args.code c.writes_listed-writes.ensures.whole c.find_item-at.result is (omega (arith, c.if-at-count.false)) in
     record {
       room = sym (or_left _ _ again.0);
       listed = again.1;
