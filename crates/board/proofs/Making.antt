@@ -1,5 +1,5 @@
 -- A new board.
-use Rattle.std.proofs.Common.{◌≡◌, ℕ, zero, suc, ◌+◌, ◌-◌, ◌*◌, ◌<◌, ◌≤◌, Bool, true, false, ◌&&◌, leb, List, [], ◌∷◌, ◌++◌, map, length, get_or, take, drop, replicate, Option, sym, refl, ap, ◌∙◌, subst, arith, Bor}
+use Rattle.std.proofs.Common.{◌≡◌, ℕ, zero, suc, ◌+◌, ◌-◌, ◌*◌, ◌<◌, ◌≤◌, Bool, true, false, ◌&&◌, leb, List, [], ◌∷◌, ◌++◌, map, length, get_or, take, drop, replicate, Option, sym, refl, ap, ◌∙◌, subst, arith, MutBor}
 use lib.ListN.{length-replicate}
 use lib.LanesLaws.{map-replicate}
 use Rattle.std.specs.List.{AllByRecursion as All}
@@ -46,7 +46,7 @@ sized items seats slots e =
     let d = and_parts (leb seats 32) _ c.1 in
     record { some_items = leb-true _ _ a.0; few_items = leb-true _ _ b.0; some_seats = leb-true _ _ c.0; few_seats = leb-true _ _ d.0; enough = leb-true _ _ d.1 }
 
-pub new_holds : {S R : Type 0} (state : S → Type 0) (coded : S → ℕ) (rest : S) (count : ℕ) (answers : R → Findings → Option ℕ) (items seats : ℕ) (rule : R) (versions : Bor (List (Version S)))
+pub new_holds : {S R : Type 0} (state : S → Type 0) (coded : S → ℕ) (rest : S) (count : ℕ) (answers : R → Findings → Option ℕ) (items seats : ℕ) (rule : R) (versions : MutBor (List (Version S)))
     → state rest → 1 ≤ items → items ≤ 256 → 1 ≤ seats → seats ≤ 32 → versions.now ≡ replicate (items * 8) (rest_version rest)
     → Holds state coded rest count answers (record { items = items; seat_count = seats; clock = 1; passes = 0; stamps = replicate 256 0; seats = replicate 32 Empty; rule = rule; versions = versions })
     (new_board (setup_of coded rest count answers (record { items = items; seat_count = seats; clock = 1; passes = 0; stamps = replicate 256 0; seats = replicate 32 Empty; rule = rule; versions = versions })))

@@ -9,7 +9,7 @@ use Rattle.std.proofs.lemmas.Bool.Decides.{Decides-eqb}
 pub returns-in_err-strip_prefix : goal.returns-in_err-strip_prefix
 returns-in_err-strip_prefix c =
     let e = past_not c.args.key.now (codes "=") _ (strip_prefix_is Decides-eqb _ c.args.key.now None c.in_err-strip_prefix.ensures.cases) in
-    ap (option_map (λ x. x.now)) c.from-residual.ensures ∙ sym e ∙ ap (past (c.args.key.now ++ codes "=")) c.cut_once.ensures.front
+    ap (option_map (λ x. x.now)) c.from_residual.ensures ∙ sym e ∙ ap (past (c.args.key.now ++ codes "=")) c.cut_once.ensures.front
 
 pub returns : goal.returns
 returns c =

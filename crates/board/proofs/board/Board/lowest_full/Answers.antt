@@ -18,8 +18,8 @@ loop-w-preserved g c s x h r reach is e =
     lowest_more c.args.self.now.items _ ws c.loop-w.w-index (record { item = 0; code = 0 }) c.loop-w.lowest c.if-not-has_room.lowest (not c.has_room.result) c.loop-w-test.true known
     (room_is _ _ _ _ _ c.args.self.now w.item c.args.least c.args.place c.slots.result.now c.has_room.result s x h c.slots.ensures c.has_room.ensures reach is known there.0 (ap (listed w.item) (sym e) ∙ there.1))
     (elim c.if-not-has_room.branch [
-      | then-not-has_room p ↦ inl (ap not p.if-not-has_room.true, p.lowest_is ∙ ap Some p.lower.ensures)
-      | else-not-has_room p ↦ inr (ap not p.if-not-has_room.false, p.lowest_is)
+      | then-not-has_room p ↦ inl (ap not p.if-not-has_room.true, p.lowest-is ∙ ap Some p.lower.ensures)
+      | else-not-has_room p ↦ inr (ap not p.if-not-has_room.false, p.lowest-is)
     ])
     (c.loop-w.invariant s x h r reach is e)
 

@@ -14,8 +14,8 @@ loop-w-preserved g c =
     (get_or_default ws c.loop-w.w-index (record { item = 0; code = 0 }) w c.loop-w-test.true)
     (λ s h lt.
     elim c.if-txn-stamp_of.branch [
-      | then-txn-stamp_of p ↦ over_then c.loop-w.overtaken _ c.args.txn.now.start (s.items w.item).stamp c.stamp_of.result p.overtaken_is p.if-txn-stamp_of.true (c.stamp_of.ensures s h lt)
-      | else-txn-stamp_of p ↦ over_else c.loop-w.overtaken _ c.args.txn.now.start (s.items w.item).stamp c.stamp_of.result p.overtaken_is p.if-txn-stamp_of.false (c.stamp_of.ensures s h lt)
+      | then-txn-stamp_of p ↦ over_then c.loop-w.overtaken _ c.args.txn.now.start (s.items w.item).stamp c.stamp_of.result p.overtaken-is p.if-txn-stamp_of.true (c.stamp_of.ensures s h lt)
+      | else-txn-stamp_of p ↦ over_else c.loop-w.overtaken _ c.args.txn.now.start (s.items w.item).stamp c.stamp_of.result p.overtaken-is p.if-txn-stamp_of.false (c.stamp_of.ensures s h lt)
     ])
     c.loop-w.invariant
 
