@@ -5,9 +5,9 @@ use Rattle.player.proofs.lines.outcome_of.Goals as goal
 
 pub returns-in_err-call : goal.returns-in_err-call
 returns-in_err-call g c =
-    let fault = err_from_is_err_and c.from-residual.result c.from-residual.ensures.1 in
+    let fault = err_from_is_err_and c.from_residual.result c.from_residual.ensures.1 in
     let rule = c.args.board.now.rule in
-    unplayed g.K.Kind.state g.K.Kind.coded g.K.Kind.rest g.K.Kind.count g.R.Rule.answers c.args.board.now c.args.line.now c.from-residual.result c.in_err-call.field-0.0
+    unplayed g.K.Kind.state g.K.Kind.coded g.K.Kind.rest g.K.Kind.count g.R.Rule.answers c.args.board.now c.args.line.now c.from_residual.result c.in_err-call.field-0.0
     g.met.K.Kind.two_codes_at_least (g.met.K.Kind.code_is_below_count g.K.Kind.rest g.met.K.Kind.rest_is_state) (record {
       in_range = g.met.R.Rule.granted_place_is_above_start_up_to_next rule;
       up_to_missed = g.met.R.Rule.granted_place_is_not_above_missed rule;
