@@ -1,12 +1,12 @@
 -- A commit does its step.
-use Rattle.std.proofs.Common.{◌≡◌, ℕ, ◌<◌, get_or, set, Some, None, Ok, Err, Option, sym, refl, ap, ◌∙◌, subst}
+use Rattle.std.proofs.Common.{◌≡◌, ℕ, ◌<◌, get_or, set, Some, None, Ok, Option, sym, ap, ◌∙◌, subst}
 use Rattle.calls.specs.declared.call.Mode.TheVariants.{Reader, Update}
 use Rattle.calls.specs.declared.call.Call.TheVariants.{Commit}
 use Rattle.calls.specs.declared.reply.Reply.TheVariants.{Granted}
 use Rattle.rules.specs.declared.findings.Findings.{Findings}
 use Rattle.rules.specs.Laws.{FourLaws}
 use Rattle.history.specs.State.{Setup, State}
-use Rattle.history.specs.Steps.{Answer, commit_in, least_start}
+use Rattle.history.specs.Steps.{Answer, commit_in}
 use Rattle.history.specs.Log.{History, Leads}
 use Rattle.history.proofs.KeptStep.{invariant}
 use Rattle.history.proofs.Granting.{open_reach}

@@ -1,5 +1,5 @@
 -- What a commit leaves.
-use Rattle.std.proofs.Common.{◌≡◌, ℕ, ◌+◌, ◌*◌, ◌<◌, ◌≤◌, Bool, true, false, cond, ltb, ◌⊎◌, List, [], ◌∷◌, length, get_or, set, Some, None, Ok, Err, Option, sym, refl, ap, ◌∙◌, subst, ⊎_elim, arith, length-set, get_or-set_other, get_or-set_same}
+use Rattle.std.proofs.Common.{◌≡◌, ℕ, ◌+◌, ◌*◌, ◌<◌, ◌≤◌, false, cond, ltb, List, length, get_or, set, Some, None, Ok, Err, Option, sym, refl, ap, ◌∙◌, subst, ⊎_elim, arith, length-set, get_or-set_other, get_or-set_same}
 use Rattle.std.specs.List.{AllByRecursion as All}
 use Rattle.std.proofs.lemmas.Bool.{cond-true, cond-false, lt-ltb, le-ltb, ltb-false, cases_eq}
 use Rattle.calls.specs.declared.call.Class.{Class}
@@ -7,18 +7,18 @@ use Rattle.calls.specs.declared.call.Mode.TheVariants.{Update}
 use Rattle.calls.specs.declared.reply.Reply.TheVariants.{Granted}
 use Rattle.calls.specs.declared.refusal.Refusal.TheVariants.{ClockSpent, RuleRefuses, VersionsFull}
 use Rattle.rules.specs.declared.findings.Findings.{Findings}
-use Rattle.history.specs.State.{Setup, State, Item, Version as Kept, Transaction as Running, put, at_rest}
-use Rattle.history.specs.Steps.{Answer, Outcome, accept, refuse, runs, raised, raise_and_drop, stored, store, listed, overfull, is_full, lowest, missed_of, findings, settle, commit_in, set_running, least_start}
+use Rattle.history.specs.State.{Setup, State, Version as Kept, Transaction as Running, put, at_rest}
+use Rattle.history.specs.Steps.{Answer, Outcome, accept, refuse, runs, raised, raise_and_drop, stored, store, listed, overfull, is_full, lowest, missed_of, findings, settle, commit_in, set_running}
 use Rattle.history.proofs.Kept.{put_same, put_other}
 use Rattle.history.proofs.Lowest.{lowest_is}
 use Rattle.versions.specs.declared.version.Version.{Version}
 use Rattle.versions.specs.Slots.{as_codes, padded}
 use Rattle.board.specs.declared.transaction.Transaction.{Transaction}
 use Rattle.board.specs.declared.seat.Seat.{Seat}
-use Rattle.board.specs.declared.seat.Seat.TheVariants.{Empty, Held}
+use Rattle.board.specs.declared.seat.Seat.TheVariants.{Empty}
 use Rattle.board.specs.declared.board.Board.{Board}
 use Rattle.board.specs.Lists.{slots_of}
-use Rattle.board.specs.Ends.{with_seats, with_stamps, replaced, Raised}
+use Rattle.board.specs.Ends.{with_seats, replaced, Raised}
 use Rattle.board.specs.Memory.{OnlyMemory, StoredAll}
 use Rattle.board.specs.Commits.{Ended, Comes}
 use Rattle.board.specs.Holding.{Runs, Seated, setup_of, Holds}

@@ -1,5 +1,5 @@
 -- What loops over the items, the write list and the seats find.
-use Rattle.std.proofs.Common.{◌≡◌, ℕ, zero, suc, ◌+◌, ◌-◌, ◌*◌, ◌<◌, ◌≤◌, min, Bool, true, false, cond, ◌||◌, ltb, leb, List, [], ◌∷◌, ◌++◌, length, get_or, take, drop, replicate, is_some, Some, None, Option, sym, refl, ap, ◌∙◌, subst, ⊎_elim, append-nil, add-one, arith}
+use Rattle.std.proofs.Common.{◌≡◌, ℕ, zero, suc, ◌+◌, ◌*◌, ◌<◌, ◌≤◌, min, Bool, true, false, cond, ◌||◌, ltb, leb, List, [], ◌∷◌, ◌++◌, length, get_or, take, replicate, is_some, Some, None, Option, sym, refl, ap, ◌∙◌, subst, ⊎_elim, append-nil, add-one, arith}
 use Rattle.std.specs.List.{AllByRecursion as All}
 use Rattle.std.proofs.lemmas.Bool.{cond-true, cond-false, le-leb, lt-leb, lt-ltb, or_right, both_ways, cases_lt}
 use Rattle.std.proofs.lemmas.List.{take_more}
@@ -8,8 +8,8 @@ use Rattle.versions.proofs.Walked.{any_snoc}
 use Rattle.calls.specs.declared.write.Write.{Write}
 use Rattle.rules.specs.declared.findings.Findings.{Findings}
 use Rattle.history.specs.State.{Setup, State, Version as Kept, Transaction as Running, Seat as Place, empty, held, at_rest}
-use Rattle.history.specs.Steps.{gather, missed_of, missed, earliest, lowest, newer, natural_by, any, overtaken, least, starts, start_of, running_of}
-use Rattle.history.proofs.Lowest.{lowest_is, lowest_none}
+use Rattle.history.specs.Steps.{gather, missed_of, missed, earliest, lowest, newer, natural_by, any, least, starts, start_of, running_of}
+use Rattle.history.proofs.Lowest.{lowest_is}
 use Rattle.versions.specs.declared.version.Version.{Version}
 use Rattle.versions.specs.declared.slots.Missed.{Missed}
 use Rattle.versions.specs.Slots.{as_codes, padded}
@@ -18,7 +18,7 @@ use Rattle.board.specs.declared.transaction.Transaction.{Transaction}
 use Rattle.board.specs.declared.seat.Seat.{Seat}
 use Rattle.board.specs.declared.seat.Seat.TheVariants.{Empty, Held}
 use Rattle.board.specs.declared.board.Board.{Board}
-use Rattle.board.specs.Lists.{slots_of, write_list, starts_in}
+use Rattle.board.specs.Lists.{slots_of, starts_in}
 use Rattle.board.specs.Holding.{Runs, Seated, setup_of, Holds}
 
 some_earliest : (vs : List Kept) → is_some (earliest vs) ≡ ltb 0 (length vs)

@@ -1,15 +1,15 @@
 -- A call that does its step keeps the promise.
-use Rattle.std.proofs.Common.{◌≡◌, ℕ, ◌<◌, ◌≤◌, Option, sym, subst}
+use Rattle.std.proofs.Common.{ℕ, ◌<◌, ◌≤◌, Option, sym, subst}
 use Rattle.calls.specs.declared.call.Call.{Call}
 use Rattle.rules.specs.declared.findings.Findings.{Findings}
 use Rattle.rules.specs.Laws.{FourLaws}
-use Rattle.history.specs.State.{Setup, State}
+use Rattle.history.specs.State.{State}
 use Rattle.history.specs.Steps.{Answer, step}
-use Rattle.history.specs.Log.{History, ◌▷◌, Leads, one_more}
+use Rattle.history.specs.Log.{◌▷◌, Leads, one_more}
 use Rattle.history.specs.Promise.{Lawful}
 use Rattle.history.proofs.PromiseKept.{every_history}
 use Rattle.board.specs.declared.board.Board.{Board}
-use Rattle.board.specs.Holding.{setup_of, Holds, Stepped, Follows, Played, KeepsThePromise}
+use Rattle.board.specs.Holding.{setup_of, Holds, Follows, KeepsThePromise}
 
 module _ {S R : Type 0} (state : S → Type 0) (coded : S → ℕ) (rest : S) (count : ℕ) (answers : R → Findings → Option ℕ) (board : Board S R) (s : State) where
   -- a board that holds a state is set up as a board may be, if its kind and its rule are lawful

@@ -1,5 +1,5 @@
 -- A new board.
-use Rattle.std.proofs.Common.{◌≡◌, ℕ, zero, suc, ◌+◌, ◌-◌, ◌*◌, ◌<◌, ◌≤◌, Bool, true, false, ◌&&◌, leb, List, [], ◌∷◌, ◌++◌, map, length, get_or, take, drop, replicate, Option, sym, refl, ap, ◌∙◌, subst, arith, MutBor}
+use Rattle.std.proofs.Common.{◌≡◌, ℕ, zero, suc, ◌+◌, ◌*◌, ◌≤◌, true, leb, List, ◌∷◌, length, get_or, take, drop, replicate, Option, sym, refl, ap, ◌∙◌, subst, arith, MutBor}
 use lib.ListN.{length-replicate}
 use lib.LanesLaws.{map-replicate}
 use Rattle.std.specs.List.{AllByRecursion as All}
@@ -9,9 +9,7 @@ use Rattle.history.specs.State.{new_board, empty}
 use Rattle.versions.specs.declared.version.Version.{Version}
 use Rattle.versions.specs.Slots.{as_code, as_codes, rest_version}
 use Rattle.versions.proofs.Storing.{all_replicate}
-use Rattle.board.specs.declared.seat.Seat.{Seat}
 use Rattle.board.specs.declared.seat.Seat.TheVariants.{Empty}
-use Rattle.board.specs.declared.board.Board.{Board}
 use Rattle.board.specs.Lists.{slots_of}
 use Rattle.board.specs.Sizes.{fits}
 use Rattle.board.specs.Holding.{Seated, setup_of, Holds}

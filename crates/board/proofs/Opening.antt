@@ -1,5 +1,5 @@
 -- Transactions that open and close, and what a seat has open.
-use Rattle.std.proofs.Common.{◌≡◌, ℕ, zero, suc, ◌<◌, Bool, true, false, not, ltb, List, [], ◌∷◌, length, get_or, take, set, replicate, is_some, Some, None, Ok, Err, Option, sym, refl, ap, ◌∙◌, subst, arith}
+use Rattle.std.proofs.Common.{◌≡◌, ℕ, ◌<◌, true, false, not, List, [], ◌∷◌, length, get_or, take, set, replicate, is_some, Some, None, Ok, Option, sym, refl, ap, ◌∙◌, subst}
 use lib.ListN.{length-replicate}
 use Rattle.std.proofs.lemmas.Bool.{cond-true, ltb-true, both_ways}
 use Rattle.calls.specs.declared.call.Class.{Class}

@@ -1,24 +1,22 @@
 -- What an open transaction reads and writes.
-use Rattle.std.proofs.Common.{◌≡◌, ℕ, ◌+◌, ◌*◌, ◌<◌, ◌≤◌, Bool, true, false, cond, not, ◌||◌, eqb, ltb, ◌⊎◌, List, [], ◌∷◌, length, get_or, set, is_some, Some, None, Ok, Err, Option, sym, refl, ap, ◌∙◌, subst, ⊎_elim, arith, length-set, get_or-set_other, get_or-set_same}
+use Rattle.std.proofs.Common.{◌≡◌, ℕ, ◌+◌, ◌*◌, ◌<◌, ◌≤◌, Bool, true, false, cond, ◌||◌, eqb, ltb, List, [], ◌∷◌, length, get_or, set, is_some, Some, None, Ok, Err, Option, sym, refl, ap, ◌∙◌, subst, ⊎_elim, arith, length-set, get_or-set_other, get_or-set_same}
 use Rattle.std.specs.List.{AllByRecursion as All}
-use Rattle.std.proofs.lemmas.Bool.{cond-true, cond-false, lt-ltb, le-ltb, ltb-true, eqb-true, eqb-false, cases_eq, cases_Bool}
+use Rattle.std.proofs.lemmas.Bool.{cond-true, cond-false, lt-ltb, le-ltb, ltb-true, eqb-true, cases_eq, cases_Bool}
 use Rattle.calls.specs.declared.write.Write.{Write}
 use Rattle.calls.specs.declared.call.Class.{Class}
 use Rattle.calls.specs.declared.call.Mode.{Mode}
 use Rattle.calls.specs.declared.call.Mode.TheVariants.{Reader, Update}
-use Rattle.calls.specs.declared.call.Call.{Call}
 use Rattle.calls.specs.declared.call.Call.TheVariants.{Read, Write as Writing}
 use Rattle.calls.specs.declared.reply.Reply.TheVariants.{Code, Done}
 use Rattle.calls.specs.declared.refusal.Refusal.TheVariants.{ReaderWrites, UnknownCode, WriteListFull}
 use Rattle.rules.specs.declared.findings.Findings.{Findings}
 use Rattle.history.specs.State.{Setup, State, Item, Version as Kept, Transaction as Running, Seat as Place, empty, held, put, at_rest}
-use Rattle.history.specs.Steps.{Outcome, asked, accept, refuse, step, listed, list_code, newest, natural_by, place_by, is_update, pass_questions, item_questions, write_questions, running_of, in_running, with_running, read_in, read_by_natural, set_running}
+use Rattle.history.specs.Steps.{Outcome, accept, step, listed, list_code, newest, natural_by, place_by, is_update, pass_questions, item_questions, running_of, in_running, with_running, read_in, read_by_natural}
 use Rattle.history.proofs.Kept.{put_same, put_other}
 use Rattle.history.proofs.KeptCalls.{listed_code}
 use Rattle.versions.specs.declared.version.Version.{Version}
 use Rattle.versions.specs.Slots.{as_codes, padded}
 use Rattle.board.specs.declared.transaction.Transaction.{Transaction}
-use Rattle.board.specs.declared.seat.Seat.{Seat}
 use Rattle.board.specs.declared.seat.Seat.TheVariants.{Empty, Held}
 use Rattle.board.specs.declared.seat.HeldSeat.{HeldSeat}
 use Rattle.board.specs.declared.board.Board.{Board}

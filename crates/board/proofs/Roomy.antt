@@ -1,12 +1,12 @@
 -- Listed items whose lists have no room.
-use Rattle.std.proofs.Common.{◌≡◌, ℕ, zero, suc, ◌+◌, ◌-◌, ◌*◌, ◌<◌, ◌≤◌, min, Bool, true, false, cond, not, eqb, ltb, leb, ◌⊎◌, List, [], ◌∷◌, ◌++◌, length, get_or, take, drop, replicate, Some, None, Option, sym, refl, ap, ◌∙◌, subst, inl, inr, ⊎_elim, arith, MatchOption}
+use Rattle.std.proofs.Common.{◌≡◌, ℕ, zero, suc, ◌+◌, ◌-◌, ◌*◌, ◌<◌, ◌≤◌, min, Bool, true, false, cond, not, eqb, ltb, leb, ◌⊎◌, List, [], ◌∷◌, ◌++◌, length, get_or, take, replicate, Some, None, Option, sym, refl, ap, ◌∙◌, subst, ⊎_elim, arith, MatchOption}
 use mathlib.Core.List.Memᴰ
 use mathlib.Core.List.{Memᴰ}
 use lib.ListN.{length-replicate}
 use Rattle.std.specs.List.{AllByRecursion as All}
-use Rattle.std.proofs.lemmas.Bool.{cond-true, cond-false, le-leb, lt-leb, leb-true, leb-false, lt-ltb, le-ltb, eq-eqb, eqb-true, both_ways, cases_lt, cases_Bool}
-use Rattle.std.proofs.lemmas.List.{take_more, take_all, length-map, length-append}
-use Rattle.std.proofs.ByRecursion.{All-get_or, All-push, All-weaker}
+use Rattle.std.proofs.lemmas.Bool.{cond-true, le-leb, lt-leb, leb-false, lt-ltb, le-ltb, eq-eqb, eqb-true, both_ways, cases_lt, cases_Bool}
+use Rattle.std.proofs.lemmas.List.{take_more, length-map, length-append}
+use Rattle.std.proofs.ByRecursion.{All-push, All-weaker}
 use Rattle.calls.specs.declared.write.Write.{Write}
 use Rattle.rules.specs.declared.findings.Findings.{Findings}
 use Rattle.history.specs.State.{Setup, State, Version as Kept, Transaction as Running, at_rest}
@@ -14,10 +14,9 @@ use Rattle.history.specs.Steps.{listed, natural_by, down_to_anchor, insert_versi
 use Rattle.history.proofs.Lowest.{lowest_none}
 use Rattle.versions.specs.declared.version.Version.{Version}
 use Rattle.versions.specs.Slots.{as_code, as_codes, padded}
-use Rattle.board.specs.declared.transaction.Transaction.{Transaction}
 use Rattle.board.specs.declared.board.Board.{Board}
-use Rattle.board.specs.Lists.{slots_of, write_list}
-use Rattle.board.specs.Holding.{Runs, OnceEach, setup_of, Holds}
+use Rattle.board.specs.Lists.{slots_of}
+use Rattle.board.specs.Holding.{setup_of, Holds}
 use Rattle.board.specs.Room.{Reaches, lower_of}
 use Rattle.board.proofs.Finding.{lowest_at}
 

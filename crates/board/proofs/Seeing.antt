@@ -1,13 +1,13 @@
 -- What is seen of an item in its slots.
-use Rattle.std.proofs.Common.{◌≡◌, ℕ, zero, suc, ◌+◌, ◌*◌, ◌<◌, ◌≤◌, Bool, true, false, cond, List, [], ◌∷◌, ◌++◌, length, replicate, Ok, Err, Option, sym, refl, ap, ◌∙◌, subst, arith}
+use Rattle.std.proofs.Common.{◌≡◌, ℕ, zero, suc, ◌+◌, ◌*◌, ◌<◌, ◌≤◌, Bool, true, false, cond, List, [], ◌∷◌, ◌++◌, length, replicate, Ok, Option, refl, ap, ◌∙◌, subst, arith}
 use Rattle.std.proofs.lemmas.Bool.{ltb-true}
 use Rattle.calls.specs.declared.call.Call.TheVariants.{Show}
 use Rattle.calls.specs.declared.reply.Reply.TheVariants.{Code}
 use Rattle.rules.specs.declared.findings.Findings.{Findings}
 use Rattle.history.specs.State.{Setup, State, Version as Kept, at_rest}
-use Rattle.history.specs.Steps.{newest, accept, item_questions}
+use Rattle.history.specs.Steps.{newest, item_questions}
 use Rattle.versions.specs.declared.version.Version.{Version}
-use Rattle.versions.specs.Slots.{as_codes, padded}
+use Rattle.versions.specs.Slots.{as_codes}
 use Rattle.board.specs.declared.board.Board.{Board}
 use Rattle.board.specs.Lists.{slots_of}
 use Rattle.board.specs.Holding.{setup_of, Holds, Stepped}

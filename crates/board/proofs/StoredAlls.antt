@@ -1,15 +1,12 @@
 -- One listed item after the other is stored.
-use Rattle.std.proofs.Common.{◌≡◌, ℕ, zero, suc, ◌+◌, ◌-◌, ◌*◌, ◌<◌, ◌≤◌, Bool, true, false, cond, eqb, ◌⊎◌, List, [], ◌∷◌, ◌++◌, length, get_or, take, drop, Some, None, Option, sym, refl, ap, ◌∙◌, subst, ⊎_elim, arith}
-use lib.ListN.{length-replicate}
-use Rattle.std.specs.List.{AllByRecursion as All}
-use Rattle.std.proofs.lemmas.Bool.{cond-true, cond-false, eq-eqb, ne_eqb, eqb-true, ltb-false, cases_eq}
-use Rattle.std.proofs.lemmas.List.{take_more, length-map, length-append, length-take-le, length-drop}
+use Rattle.std.proofs.Common.{◌≡◌, ℕ, zero, suc, ◌+◌, ◌*◌, ◌<◌, ◌≤◌, true, false, cond, eqb, List, [], ◌∷◌, ◌++◌, length, get_or, take, drop, Some, None, sym, refl, ap, ◌∙◌, subst, ⊎_elim, arith}
+use Rattle.std.proofs.lemmas.Bool.{cond-true, cond-false, eq-eqb, ne_eqb, ltb-false, cases_eq}
+use Rattle.std.proofs.lemmas.List.{take_more, length-take-le, length-drop}
 use Rattle.calls.specs.declared.write.Write.{Write}
-use Rattle.history.specs.State.{Setup, State, Version as Kept, Transaction as Running, at_rest}
+use Rattle.history.specs.State.{Setup, State, Transaction as Running, at_rest}
 use Rattle.history.specs.Steps.{listed, stored, overfull, is_full, least_start, down_to_anchor, insert_version}
 use Rattle.versions.specs.declared.version.Version.{Version}
 use Rattle.versions.specs.Slots.{as_code, as_codes, padded, rest_version}
-use Rattle.versions.specs.Plans.{Stored}
 use Rattle.board.specs.declared.board.Board.{Board}
 use Rattle.board.specs.Lists.{slots_of}
 use Rattle.board.specs.Holding.{OnceEach}

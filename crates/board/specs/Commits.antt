@@ -1,5 +1,5 @@
 -- What a commit does.
-use Rattle.std.specs.Prelude.{◌≡◌, ℕ, ◌+◌, ◌<◌, false, cond, length, Some, None, Option, slice_index_or, slice_set}
+use Rattle.std.specs.Prelude.{◌≡◌, ℕ, ◌+◌, ◌<◌, Some, None, Option, slice_index_or, slice_set}
 use Rattle.calls.specs.declared.call.Class.{Class}
 use Rattle.calls.specs.declared.call.Mode.TheVariants.{Update}
 use Rattle.rules.specs.declared.findings.Findings.{Findings}
@@ -8,7 +8,7 @@ use Rattle.history.specs.Steps.{Answer, Outcome, commit_in, settle, least_start}
 use Rattle.board.specs.declared.transaction.Transaction.{Transaction}
 use Rattle.board.specs.declared.seat.Seat.TheVariants.{Empty}
 use Rattle.board.specs.declared.board.Board.{Board}
-use Rattle.board.specs.Ends.{with_seats, with_stamps, replaced, Raised}
+use Rattle.board.specs.Ends.{with_seats, replaced, Raised}
 use Rattle.board.specs.Room.{Reaches}
 use Rattle.board.specs.Holding.{setup_of, Runs, Holds}
 

@@ -1,5 +1,5 @@
 -- Room in version lists.
-use Rattle.std.specs.Prelude.{ℕ, ◌≤◌, min, List, Some, None, Option}
+use Rattle.std.specs.Prelude.{ℕ, ◌≤◌, min, Some, None, Option}
 use mathlib.Core.List.{Memᴰ}
 use Rattle.history.specs.State.{State, Version}
 

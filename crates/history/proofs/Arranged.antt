@@ -1,16 +1,16 @@
 -- The serial order: `ahead` is a strict order that decides between any two distinct granted transactions, and putting in keeps a list in order.
-use Rattle.std.proofs.Common.{◌≡◌, ℕ, ◌<◌, ◌≤◌, Bool, true, false, cond, not, ◌&&◌, ◌||◌, eqb, ltb, ◌⊎◌, List, [], ◌∷◌, ◌++◌, None, filter, sym, refl, ap, ◌∙◌, subst, inl, inr, ⊎_elim, arith}
+use Rattle.std.proofs.Common.{◌≡◌, ℕ, ◌<◌, ◌≤◌, Bool, true, false, cond, not, ltb, ◌⊎◌, List, [], ◌∷◌, None, filter, sym, refl, ap, ◌∙◌, subst, inl, inr, ⊎_elim, arith}
 use mathlib.Core.List.Memᴰ
 use mathlib.Core.List.{Memᴰ}
 use Rattle.std.specs.List.{AllByRecursion as All}
 use Rattle.std.specs.List.Sorted.{IsPermutation}
-use Rattle.std.proofs.lemmas.Bool.{ltb-true, ltb-false, eqb-true, eqb-false, lt-ltb, eq-eqb, or_cases, or_parts, or_left, or_right, and_parts, and_cases, and_from, cond-false, both_ways, cases_order}
+use Rattle.std.proofs.lemmas.Bool.{ltb-true, eqb-true, lt-ltb, eq-eqb, or_cases, or_left, or_right, and_parts, and_from, cond-false, both_ways, cases_order}
 use Rattle.std.proofs.lemmas.List.Sorted.{IsPermutation-refl, IsPermutation-trans, IsPermutation-cons, IsPermutation-swap}
 use Rattle.calls.specs.declared.call.Mode.{Mode}
 use Rattle.calls.specs.declared.call.Mode.TheVariants.{Reader, Update}
 use Rattle.history.specs.Log.{Grant}
 use Rattle.history.specs.Order.{first_at_place, ahead, put_in, arranged}
-use Rattle.history.specs.Run.{Table, after, Answered, run, EachAnswered}
+use Rattle.history.specs.Run.{Table, Answered, run, EachAnswered}
 use Rattle.history.specs.Promise.{◌∈◌, InOrder, StandsAhead}
 use Rattle.history.proofs.Runs.{written, Sees, all_in, each_agrees, after_none}
 

@@ -1,17 +1,17 @@
 -- Natural numbers count the granted updates.
-use Rattle.std.proofs.Common.{◌≡◌, ℕ, suc, ◌+◌, ◌<◌, ◌≤◌, Bool, true, false, cond, ltb, List, [], ◌∷◌, map, length, Some, None, filter, Option, sym, refl, ap, ◌∙◌, subst, arith}
-use Rattle.std.proofs.lemmas.Bool.{cond_both, cond-true, cond-false}
+use Rattle.std.proofs.Common.{◌≡◌, ℕ, ◌+◌, cond, ltb, List, ◌∷◌, map, length, Some, None, filter, Option, sym, refl, ap, ◌∙◌, subst, arith}
+use Rattle.std.proofs.lemmas.Bool.{cond_both}
 use Rattle.calls.specs.declared.call.Class.{Class}
 use Rattle.calls.specs.declared.call.Mode.{Mode}
 use Rattle.calls.specs.declared.call.Mode.TheVariants.{Reader, Update}
 use Rattle.calls.specs.declared.call.Call.{Call}
 use Rattle.calls.specs.declared.call.Call.TheVariants.{Admit, Revoke, Begin, Read, Write as Writing, Commit, Abandon, Show}
 use Rattle.rules.specs.Laws.{FourLaws}
-use Rattle.history.specs.State.{Setup, Transaction, held, State}
-use Rattle.history.specs.Steps.{Outcome, step, limit, is_update, listed, findings, read_in, read_by_natural, settle, commit_in, lowest, is_full, running_of, admit_questions, revoke_questions, pass_questions, begin_questions, item_questions, write_questions, with_running}
+use Rattle.history.specs.State.{Setup, Transaction, State}
+use Rattle.history.specs.Steps.{Outcome, step, limit, is_update, listed, findings, read_in, read_by_natural, settle, commit_in, lowest, is_full, running_of, admit_questions, revoke_questions, pass_questions, begin_questions, item_questions, write_questions}
 use Rattle.history.specs.Log.{History, Leads, from_new, one_more, Trace, Grant, Log, log, note, drop_it, grant_it}
-use Rattle.history.specs.Progress.{naturals, down_to_two, NaturalsCountGrants}
-use Rattle.history.proofs.Invariant.{Inv, AtSeat, board_has}
+use Rattle.history.specs.Progress.{down_to_two, NaturalsCountGrants}
+use Rattle.history.proofs.Invariant.{Inv, board_has}
 use Rattle.history.proofs.Asked.{asked_cases, with_running_cases}
 use Rattle.history.proofs.KeptStep.{invariant}
 

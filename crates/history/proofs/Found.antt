@@ -1,11 +1,11 @@
 -- What a commit finds, as facts.
-use Rattle.std.proofs.Common.{◌≡◌, ℕ, zero, suc, ◌+◌, ◌<◌, ◌≤◌, min, Bool, true, false, cond, not, ◌&&◌, ◌||◌, eqb, ltb, leb, ◌⊎◌, List, [], ◌∷◌, ◌++◌, is_some, Some, None, Option, sym, refl, ap, ◌∙◌, subst, inl, inr, ⊎_elim, arith}
+use Rattle.std.proofs.Common.{◌≡◌, ℕ, zero, suc, ◌<◌, ◌≤◌, min, Bool, true, false, cond, eqb, ◌⊎◌, List, [], ◌∷◌, Some, None, Option, sym, refl, ap, ◌∙◌, subst, inl, inr, ⊎_elim, arith}
 use mathlib.Core.List.Memᴰ
 use mathlib.Core.List.{Memᴰ}
-use Rattle.std.proofs.lemmas.Bool.{ltb-true, ltb-false, eqb-true, eqb-false, leb-true, leb-false, le-leb, both_ways, or_parts, or_left, or_right, not-true, not-false, cases_lt}
+use Rattle.std.proofs.lemmas.Bool.{eqb-true, leb-false, le-leb, or_parts, or_left, or_right, cases_lt}
 use Rattle.calls.specs.declared.write.Write.{Write}
-use Rattle.history.specs.State.{Setup, Version, Item, Transaction, State}
-use Rattle.history.specs.Steps.{newest, natural_by, newer, gather, any, earliest, is_warped, missed_of, missed, overtaken, findings, listed, least, starts, start_of, running_of}
+use Rattle.history.specs.State.{Setup, Version, Transaction, State}
+use Rattle.history.specs.Steps.{newest, natural_by, newer, gather, any, earliest, overtaken, listed, least}
 use Rattle.history.specs.Promise.{◌∈◌}
 use Rattle.history.proofs.Runs.{all_in}
 use Rattle.history.proofs.Versions.{Falling}

@@ -1,23 +1,21 @@
 -- A granted update: its own reads stand at its place, nobody's earlier reads fall, and the lists stay good.
-use Rattle.std.proofs.Common.{◌≡◌, ℕ, ◌+◌, ◌<◌, ◌≤◌, Bool, true, false, cond, not, ◌&&◌, ◌||◌, eqb, ltb, leb, ◌⊎◌, List, [], ◌∷◌, ◌++◌, Some, None, filter, Option, sym, refl, ap, ◌∙◌, subst, inl, inr, ⊎_elim, arith}
+use Rattle.std.proofs.Common.{◌≡◌, ℕ, ◌+◌, ◌<◌, ◌≤◌, Bool, true, false, cond, not, ◌&&◌, leb, List, [], ◌∷◌, Some, None, filter, Option, sym, refl, ap, ◌∙◌, subst, inl, inr, ⊎_elim, arith}
 use mathlib.Core.List.Memᴰ
 use mathlib.Core.List.{Memᴰ}
-use Rattle.std.proofs.lemmas.Bool.{leb-true, lt-leb, le-leb, both_ways, and_from, and_parts, and_right, not-true, not-false, cases_lt, cond-true, eqb-true, eqb-false}
+use Rattle.std.proofs.lemmas.Bool.{leb-true, lt-leb, le-leb, both_ways, and_from, and_parts, and_right, not-true, not-false, cases_lt, eqb-true}
 use Rattle.calls.specs.declared.call.Class.{Class}
-use Rattle.calls.specs.declared.call.Mode.{Mode}
-use Rattle.calls.specs.declared.call.Mode.TheVariants.{Reader, Update}
-use Rattle.rules.specs.declared.findings.Findings.{Findings}
+use Rattle.calls.specs.declared.call.Mode.TheVariants.{Update}
 use Rattle.rules.specs.Laws.{BoardGives, FourLaws}
-use Rattle.history.specs.State.{Setup, Version, Item, Transaction, Seat, held, State, at_rest}
-use Rattle.history.specs.Steps.{newest, natural_by, newer, listed, missed_of, missed, is_warped, overtaken, findings, is_update, running_of, start_of, starts, least_start, cut_down, stored, insert_version}
+use Rattle.history.specs.State.{Setup, Version, Transaction, State}
+use Rattle.history.specs.Steps.{newest, natural_by, newer, listed, missed_of, missed, is_warped, findings, is_update, running_of, start_of, starts, least_start, cut_down, stored}
 use Rattle.history.specs.Log.{Trace, Grant, Log}
 use Rattle.history.specs.Order.{ahead, put_in, arranged}
 use Rattle.history.specs.Run.{Answered, run, all_rest, seen_by, within_start}
 use Rattle.history.specs.Promise.{◌∈◌}
 use Rattle.history.proofs.Runs.{written, Sees, Writes, answered_agrees, run_put_in, kept_put_in}
 use Rattle.history.proofs.Arranged.{Ahead, First, ahead_place, first_updates, tell_ahead, ahead_told, not_behind}
-use Rattle.history.proofs.Versions.{Stores, Keeps, Newest, newest_is, Last, rests, stores, run_leaves}
-use Rattle.history.proofs.Invariant.{Sound, Updated, Looked, Consistent, Running, Inv, AtSeat, log_has, board_has}
+use Rattle.history.proofs.Versions.{Keeps, Newest, newest_is, Last, rests, stores, run_leaves}
+use Rattle.history.proofs.Invariant.{Consistent, Running, Inv, AtSeat, board_has}
 use Rattle.history.proofs.Picks.{update_or_reader, writer_updates, writer, version_by, natural_picked}
 use Rattle.history.proofs.Stored.{Cut, cut_down_is, keeps_unwritten, keeps_written, insert_keeps}
 use Rattle.history.proofs.Found.{in_gather, gather_in, any_false, earliest_least, earliest_in, in_newer, newer_in, overtaken_by, least_first, least_each, least_in}

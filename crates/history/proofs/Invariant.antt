@@ -1,6 +1,5 @@
 -- What holds of a board together with the log of the calls that led to it.
-use Rattle.std.proofs.Common.{◌≡◌, ℕ, ◌+◌, ◌<◌, ◌≤◌, Bool, true, false, List, [], ◌∷◌, Some, None, filter, Option, sym, refl, ap, ◌∙◌, subst, arith}
-use Rattle.calls.specs.declared.call.Mode.{Mode}
+use Rattle.std.proofs.Common.{◌≡◌, ℕ, ◌+◌, ◌<◌, ◌≤◌, true, List, Some, None, filter, Option, refl, ap, ◌∙◌, subst, arith}
 use Rattle.calls.specs.declared.call.Mode.TheVariants.{Reader, Update}
 use Rattle.history.specs.State.{Setup, Version, Item, Transaction, Seat, empty, held, State}
 use Rattle.history.specs.Steps.{listed, running_of}

@@ -1,16 +1,14 @@
 -- The invariant is kept where nothing is granted: at most one seat's transaction changes, and stamps may rise.
-use Rattle.std.proofs.Common.{◌≡◌, ℕ, ◌+◌, ◌<◌, ◌≤◌, Bool, true, false, cond, eqb, ◌⊎◌, List, [], ◌∷◌, Some, None, Option, sym, refl, ap, ◌∙◌, subst, inl, inr, ⊎_elim, arith}
+use Rattle.std.proofs.Common.{◌≡◌, ℕ, ◌+◌, ◌<◌, ◌≤◌, true, false, cond, eqb, List, ◌∷◌, Some, None, Option, sym, refl, ap, ◌∙◌, subst, ⊎_elim, arith}
 use mathlib.Core.List.Memᴰ
-use mathlib.Core.List.{Memᴰ}
 use Rattle.std.proofs.lemmas.Bool.{cases_eq, eq-eqb, ne_eqb, cond-true, cond-false, cond_both, eqb-true}
 use Rattle.std.specs.Option.{option_map}
-use Rattle.history.specs.State.{Setup, Version, Item, Transaction, Seat, empty, held, State, put}
+use Rattle.history.specs.State.{Setup, Item, Transaction, Seat, empty, held, State, put}
 use Rattle.calls.specs.declared.call.Class.{Class}
 use Rattle.history.specs.Log.{Deeds, Trace, Grant, Log, count_call, does, drop_it}
 use Rattle.history.specs.Promise.{◌∈◌}
-use Rattle.history.proofs.Runs.{Sees}
 use Rattle.history.proofs.Versions.{Keeps}
-use Rattle.history.proofs.Invariant.{Sound, Updated, Looked, Consistent, Running, Matched, Inv, log_has}
+use Rattle.history.proofs.Invariant.{Sound, Looked, Consistent, Running, Matched, Inv, log_has}
 
 pub put_same : {A : Type 0} (f : ℕ → A) (i : ℕ) (x : A) → put f i x i ≡ x
 put_same f i x = cond-true (eqb i i) x (f i) (eq-eqb i i refl)

@@ -1,27 +1,25 @@
 -- Each call keeps the invariant.
-use Rattle.std.proofs.Common.{◌≡◌, ℕ, ◌+◌, ◌<◌, ◌≤◌, Bool, true, false, cond, not, ◌&&◌, ◌||◌, eqb, ltb, leb, ◌⊎◌, List, [], ◌∷◌, is_some, Some, None, Ok, Err, filter, Option, sym, refl, ap, ◌∙◌, subst, inl, inr, ⊎_elim, arith}
-use mathlib.Core.List.{Memᴰ}
-use Rattle.std.proofs.lemmas.Bool.{ltb-true, not-true, cases_eq, le-leb, leb-true, eqb-true, eqb-false, eq-eqb, ne_eqb, cond-true, cond-false, or_cases}
+use Rattle.std.proofs.Common.{◌≡◌, ℕ, ◌+◌, ◌<◌, ◌≤◌, true, false, cond, ◌&&◌, eqb, List, [], ◌∷◌, Some, None, filter, Option, sym, refl, ap, ◌∙◌, subst, ⊎_elim, arith}
+use Rattle.std.proofs.lemmas.Bool.{ltb-true, not-true, cases_eq, eqb-true, eqb-false, eq-eqb, ne_eqb, cond-true, cond-false}
 use Rattle.calls.specs.declared.call.Class.{Class}
 use Rattle.calls.specs.declared.call.Mode.{Mode}
 use Rattle.calls.specs.declared.call.Mode.TheVariants.{Reader, Update}
 use Rattle.calls.specs.declared.call.Call.{Call}
-use Rattle.calls.specs.declared.call.Call.TheVariants.{Admit, Revoke, Begin, Read, Write as Writing, Commit, Abandon, Show}
-use Rattle.rules.specs.Laws.{FourLaws}
+use Rattle.calls.specs.declared.call.Call.TheVariants.{Admit, Revoke, Begin, Read, Write as Writing, Abandon, Show}
 use Rattle.calls.specs.declared.write.Write.{Write}
-use Rattle.history.specs.State.{Setup, Version, Item, Transaction, Seat, empty, held, State, put}
+use Rattle.history.specs.State.{Setup, Item, Transaction, empty, held, State, put}
 use Rattle.calls.specs.declared.reply.Reply.TheVariants.{Done}
-use Rattle.history.specs.Steps.{Outcome, asked, accept, set_running, step, admit, revoke, begin, read, write, commit, abandon, show, listed, list_code, newest, natural_by, place_by, is_held, running_of, runs, read_in, read_by_natural, read_by_place, commit_in, settle, is_update, admit_questions, revoke_questions, pass_questions, begin_questions, item_questions, write_questions}
-use Rattle.history.specs.Log.{Deeds, begun, and_read, and_wrote, Trace, Grant, Log, note, count_call}
-use Rattle.history.specs.Order.{put_in, arranged}
-use Rattle.history.specs.Run.{Answered, run, all_rest, seen_by, after, within_start}
-use Rattle.history.specs.Promise.{◌∈◌, InOrder}
+use Rattle.history.specs.Steps.{Outcome, asked, accept, set_running, admit, revoke, begin, show, listed, list_code, newest, natural_by, place_by, running_of, runs, read_in, read_by_natural, is_update, admit_questions, revoke_questions, pass_questions, begin_questions, item_questions, write_questions}
+use Rattle.history.specs.Log.{begun, and_read, Trace, Grant, Log, note, count_call}
+use Rattle.history.specs.Order.{arranged}
+use Rattle.history.specs.Run.{run, all_rest, seen_by, after, within_start}
+use Rattle.history.specs.Promise.{◌∈◌}
 use Rattle.history.proofs.Runs.{written, Sees, after_none, after_some}
-use Rattle.history.proofs.Versions.{Keeps, run_leaves}
-use Rattle.history.proofs.Invariant.{Sound, Updated, Looked, Consistent, Running, Matched, Inv, AtSeat, board_has, log_has, log_none}
+use Rattle.history.proofs.Versions.{run_leaves}
+use Rattle.history.proofs.Invariant.{Sound, Running, Inv, log_has, log_none}
 use Rattle.history.proofs.Picks.{update_or_reader, version_by, natural_picked, place_picked}
-use Rattle.history.proofs.Kept.{put_same, put_other, put_cases, Risen, risen_same, Changed, changed_put, changed_not, kept, idle, does_kept, drop_kept, consistent_later}
-use Rattle.history.proofs.Asked.{AllYes, asked_cases, is_held_by, is_empty, is_none, with_running_cases}
+use Rattle.history.proofs.Kept.{put_same, put_other, put_cases, Risen, risen_same, Changed, changed_put, changed_not, kept, idle, does_kept, drop_kept}
+use Rattle.history.proofs.Asked.{asked_cases, is_held_by, is_empty, is_none}
 
 -- what a call makes of the board and of the log
 abbrev pub Kept : Setup → Log → Call → Outcome → Type 0

@@ -1,27 +1,24 @@
 -- A commit keeps the invariant.
-use Rattle.std.proofs.Common.{◌≡◌, ℕ, ◌+◌, ◌<◌, ◌≤◌, Bool, true, false, cond, not, ◌&&◌, ◌||◌, eqb, ltb, leb, ◌⊎◌, List, [], ◌∷◌, Some, None, filter, Option, sym, refl, ap, ◌∙◌, subst, inl, inr, ⊎_elim, arith}
-use mathlib.Core.List.{Memᴰ}
-use Rattle.std.proofs.lemmas.Bool.{cond_both, cond-true, both_ways, leb-true, leb-false, le-leb, lt-leb, le-ltb, lt-ltb, eq-eqb, ne_eqb, or_left, or_from, and_right, cases_lt}
+use Rattle.std.proofs.Common.{◌≡◌, ℕ, ◌+◌, ◌≤◌, false, not, ◌&&◌, eqb, ltb, leb, ◌⊎◌, Some, None, Option, sym, refl, ap, ◌∙◌, subst, inl, inr, ⊎_elim, arith}
+use Rattle.std.proofs.lemmas.Bool.{cond_both, cond-true, le-leb, lt-leb, le-ltb, lt-ltb, or_left, or_from, and_right, cases_lt}
 use Rattle.calls.specs.declared.call.Class.{Class}
 use Rattle.calls.specs.declared.call.Mode.{Mode}
 use Rattle.calls.specs.declared.call.Mode.TheVariants.{Reader, Update}
-use Rattle.calls.specs.declared.call.Call.{Call}
 use Rattle.calls.specs.declared.call.Call.TheVariants.{Commit}
 use Rattle.rules.specs.Laws.{FourLaws}
-use Rattle.history.specs.State.{Setup, Version, Item, Transaction, Seat, empty, held, State, put}
-use Rattle.history.specs.Steps.{Outcome, step, commit_in, settle, is_update, raised, raise_and_drop, store, stored, lowest, is_full, limit, runs, findings, set_running, listed}
-use Rattle.history.specs.Log.{Trace, Grant, Log, note, count_call, grant_it}
-use Rattle.history.specs.Order.{ahead, first_at_place, put_in, arranged}
-use Rattle.history.specs.Run.{Answered, EachAnswered, run, all_rest, seen_by, within_start}
+use Rattle.history.specs.State.{Setup, Item, Transaction, Seat, held, State, put}
+use Rattle.history.specs.Steps.{commit_in, settle, is_update, raised, store, lowest, is_full, limit, runs, findings}
+use Rattle.history.specs.Log.{Trace, Grant, Log, count_call, grant_it}
+use Rattle.history.specs.Order.{first_at_place, arranged}
+use Rattle.history.specs.Run.{Answered, run, all_rest, seen_by, within_start}
 use Rattle.history.specs.Promise.{◌∈◌}
-use Rattle.history.proofs.Runs.{written, Sees, answered_agrees, kept_put_in, run_same}
-use Rattle.history.proofs.Arranged.{Ahead, Apart, ahead_decided, not_behind, each_put_in, in_arranged}
-use Rattle.history.proofs.Versions.{Keeps}
-use Rattle.history.proofs.Invariant.{Sound, Updated, Looked, Consistent, Running, Matched, Inv, AtSeat}
-use Rattle.history.proofs.Picks.{update_or_reader, writer_updates}
+use Rattle.history.proofs.Runs.{written, answered_agrees, kept_put_in, run_same}
+use Rattle.history.proofs.Arranged.{Apart, ahead_decided, not_behind, each_put_in, in_arranged}
+use Rattle.history.proofs.Invariant.{Running, Inv, AtSeat}
+use Rattle.history.proofs.Picks.{update_or_reader}
 use Rattle.history.proofs.Stored.{keeps_unwritten}
 use Rattle.history.proofs.Kept.{put_same, put_other, Risen, risen_same, Changed, drop_kept, looked_later}
-use Rattle.history.proofs.Granting.{Fair, fair, T, free_behind, consistent_still, own_reads, lists_keep, lists_reach}
+use Rattle.history.proofs.Granting.{Fair, fair, free_behind, consistent_still, own_reads, lists_keep, lists_reach}
 use Rattle.history.proofs.KeptGrant.{Granting, kept_grant}
 use Rattle.history.proofs.KeptCalls.{Kept}
 

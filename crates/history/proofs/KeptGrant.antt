@@ -1,17 +1,16 @@
 -- The invariant is kept where a transaction is granted, given what is shown of its reads and of the lists.
-use Rattle.std.proofs.Common.{◌≡◌, ℕ, ◌+◌, ◌<◌, ◌≤◌, Bool, true, false, cond, ◌⊎◌, List, [], ◌∷◌, Some, None, Option, sym, refl, ap, ◌∙◌, subst, inl, inr, ⊎_elim, arith}
+use Rattle.std.proofs.Common.{◌≡◌, ℕ, ◌+◌, ◌<◌, ◌≤◌, ◌⊎◌, ◌∷◌, Some, None, Option, sym, refl, ◌∙◌, subst, ⊎_elim, arith}
 use mathlib.Core.List.Memᴰ
-use mathlib.Core.List.{Memᴰ}
 use Rattle.std.proofs.lemmas.Bool.{cases_eq}
 use Rattle.calls.specs.declared.call.Class.{Class}
 use Rattle.history.specs.State.{Setup, Version, Item, Transaction, Seat, empty, held, State, put}
 use Rattle.history.specs.Log.{Trace, Grant, Log, count_call, grant_it}
 use Rattle.history.specs.Order.{put_in, arranged}
 use Rattle.history.specs.Run.{EachAnswered, all_rest}
-use Rattle.history.specs.Promise.{◌∈◌, InOrder}
+use Rattle.history.specs.Promise.{◌∈◌}
 use Rattle.history.proofs.Arranged.{Ahead, in_order_put_in, in_arranged}
 use Rattle.history.proofs.Versions.{Keeps}
-use Rattle.history.proofs.Invariant.{Sound, Updated, Looked, Consistent, Running, Matched, Inv, AtSeat, log_has}
+use Rattle.history.proofs.Invariant.{Sound, Consistent, Matched, Inv, AtSeat, log_has}
 use Rattle.history.proofs.Kept.{Changed, changed_put, sound_later}
 
 module _ {b : Setup} {s : State} {l : Log} (inv : Inv b s l) (k : ℕ) (x : Transaction) (t : Trace) (at : AtSeat b s l k x t)

@@ -1,15 +1,13 @@
 -- Every call keeps the invariant, so it holds after every history.
-use Rattle.std.proofs.Common.{◌≡◌, ℕ, ◌+◌, ◌<◌, ◌≤◌, Bool, true, false, cond, ◌⊎◌, List, [], ◌∷◌, Some, None, Option, sym, refl, ap, ◌∙◌, subst, inl, inr, ⊎_elim, arith}
+use Rattle.std.proofs.Common.{◌≡◌, ℕ, refl, ap, inl, ⊎_elim, arith}
 use mathlib.Core.List.Memᴰ
-use Rattle.calls.specs.declared.call.Class.{Class}
 use Rattle.calls.specs.declared.call.Call.{Call}
 use Rattle.calls.specs.declared.call.Call.TheVariants.{Admit, Revoke, Begin, Read, Write as Writing, Commit, Abandon, Show}
 use Rattle.rules.specs.Laws.{FourLaws}
-use Rattle.history.specs.State.{Setup, Transaction, Seat, held, State, new_board, at_rest}
-use Rattle.history.specs.Steps.{Outcome, step, running_of, with_running}
-use Rattle.history.specs.Log.{History, nothing, ◌▷◌, Leads, from_new, one_more, Trace, Log, log}
-use Rattle.history.specs.Promise.{◌∈◌}
-use Rattle.history.proofs.Invariant.{Inv, AtSeat, board_has}
+use Rattle.history.specs.State.{Setup, State, new_board, at_rest}
+use Rattle.history.specs.Steps.{step, running_of}
+use Rattle.history.specs.Log.{History, nothing, Leads, from_new, one_more, Log, log}
+use Rattle.history.proofs.Invariant.{Inv, board_has}
 use Rattle.history.proofs.Kept.{idle}
 use Rattle.history.proofs.Asked.{with_running_cases}
 use Rattle.history.proofs.KeptCalls.{Kept, admit_kept, revoke_kept, show_kept, begin_kept, read_here_kept, write_here_kept, abandon_here_kept}

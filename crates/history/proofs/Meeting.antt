@@ -1,5 +1,5 @@
 -- The premises of the theorems are met on a board of two items and two seats under the rule now.
-use Rattle.std.proofs.Common.{◌≡◌, ℕ, zero, suc, ◌+◌, ◌<◌, false, List, [], ◌∷◌, ◌++◌, refl, ⊎_elim, arith, lit<, lit≤}
+use Rattle.std.proofs.Common.{◌≡◌, ℕ, zero, suc, ◌<◌, false, List, [], ◌∷◌, ◌++◌, refl, arith, lit<, lit≤}
 use Rattle.calls.specs.declared.call.Class.TheVariants.{Member}
 use Rattle.calls.specs.declared.call.Mode.TheVariants.{Reader, Update}
 use Rattle.calls.specs.declared.call.Call.{Call}
@@ -7,10 +7,9 @@ use Rattle.calls.specs.declared.call.Call.TheVariants.{Admit, Begin, Read, Write
 use Rattle.rules.specs.Laws.{FourLaws}
 use Rattle.rules.specs.NowAnswers.{now_answers}
 use Rattle.history.specs.State.{Setup, Transaction, State}
-use Rattle.history.specs.Steps.{is_full, listed}
-use Rattle.calls.specs.declared.write.Write.{Write}
+use Rattle.history.specs.Steps.{is_full}
 use Rattle.history.specs.Log.{History, Leads, from_new, one_more}
-use Rattle.history.specs.Premises.{Undisturbed, Refusing, PremisesMet}
+use Rattle.history.specs.Premises.{PremisesMet}
 
 -- where calls lead
 pub record Way (b : Setup) : Type 0 where

@@ -1,5 +1,5 @@
 -- Passes: a revoked one is held at no seat, now or ever, so every call that shows it is refused.
-use Rattle.std.proofs.Common.{◌≡◌, ℕ, ◌+◌, ◌<◌, ◌≤◌, Bool, true, false, cond, eqb, ltb, ◌⊎◌, List, [], ◌∷◌, is_ok, Some, None, Ok, Err, Option, sym, refl, ap, ◌∙◌, subst, inl, inr, ⊎_elim, arith}
+use Rattle.std.proofs.Common.{◌≡◌, ℕ, ◌+◌, ◌≤◌, true, false, ltb, ◌⊎◌, is_ok, Some, None, Err, Option, sym, refl, ap, ◌∙◌, inl, inr, ⊎_elim, arith}
 use Rattle.std.proofs.lemmas.Bool.{eqb-true, cases_eq, cond_both}
 use Rattle.calls.specs.declared.call.Class.{Class}
 use Rattle.calls.specs.declared.call.Mode.{Mode}
@@ -8,11 +8,11 @@ use Rattle.calls.specs.declared.call.Call.{Call}
 use Rattle.calls.specs.declared.call.Call.TheVariants.{Admit, Revoke, Begin, Read, Write as Writing, Commit, Abandon, Show}
 use Rattle.calls.specs.declared.refusal.Refusal.{Refusal}
 use Rattle.history.specs.State.{Setup, Transaction, Seat, empty, held, State, put, new_board}
-use Rattle.history.specs.Steps.{Outcome, Answer, asked, step, has_pass, running_of, runs, with_running, in_running, set_running, admit, revoke, begin, read_in, read_by_natural, listed, commit_in, settle, limit, findings, lowest, is_full, admit_questions, revoke_questions, pass_questions, begin_questions, item_questions, write_questions}
+use Rattle.history.specs.Steps.{Outcome, Answer, step, has_pass, runs, with_running, admit, revoke, begin, read_in, read_by_natural, listed, commit_in, settle, limit, findings, lowest, is_full, admit_questions, revoke_questions, pass_questions, begin_questions, item_questions, write_questions}
 use Rattle.history.specs.Log.{History, nothing, ◌▷◌, Leads, from_new, one_more}
 use Rattle.history.specs.Promise.{pass_at, pass_noted, Empties, Revoked, shown_pass, LockedOut}
 use Rattle.history.proofs.Kept.{put_cases, put_same, put_other, put_maps}
-use Rattle.history.proofs.Asked.{AllYes, asked_cases, in_running_cases, with_running_cases, is_empty}
+use Rattle.history.proofs.Asked.{asked_cases, with_running_cases}
 
 abbrev pub pass_of : Seat → Option ℕ
 pass_of empty = None

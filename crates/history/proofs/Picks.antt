@@ -1,19 +1,16 @@
 -- The lemma that carries the reads: the newest version that passes a test belongs to the last granted update, in the serial order, that passes it.
-use Rattle.std.proofs.Common.{◌≡◌, ℕ, ◌+◌, ◌<◌, ◌≤◌, Bool, true, false, cond, not, ◌&&◌, ◌||◌, eqb, ltb, leb, ◌⊎◌, List, [], ◌∷◌, Some, None, filter, sym, refl, ap, ◌∙◌, subst, inl, inr, ⊎_elim, arith}
-use Rattle.std.specs.List.{AllByRecursion as All}
+use Rattle.std.proofs.Common.{◌≡◌, ℕ, ◌≤◌, Bool, true, ◌&&◌, leb, ◌⊎◌, List, sym, refl, ap, ◌∙◌, subst, inl, inr, ⊎_elim, arith}
 use Rattle.std.proofs.lemmas.Bool.{leb-true, le-leb, and_parts, and_from}
 use Rattle.calls.specs.declared.call.Mode.{Mode}
 use Rattle.calls.specs.declared.call.Mode.TheVariants.{Reader, Update}
 use Rattle.history.specs.State.{Setup, Version, Item, at_rest}
 use Rattle.history.specs.Steps.{newest, natural_by, place_by, is_update}
-use Rattle.history.specs.Log.{Trace, Grant}
-use Rattle.history.specs.Order.{ahead, arranged}
-use Rattle.history.specs.Run.{Table, run, all_rest, seen_by, within_start}
-use Rattle.history.specs.Promise.{◌∈◌, InOrder}
-use Rattle.history.proofs.Runs.{written, Sees, Writes}
-use Rattle.history.proofs.Arranged.{Ahead, First, ahead_place, first_updates}
-use Rattle.history.proofs.Versions.{Falling, Stores, Keeps, Newest, newest_is, one_at_place, Last, rests, stores, run_leaves}
-use Rattle.history.proofs.Invariant.{Sound, Updated, Looked}
+use Rattle.history.specs.Log.{Grant}
+use Rattle.history.specs.Promise.{◌∈◌}
+use Rattle.history.proofs.Runs.{Writes}
+use Rattle.history.proofs.Arranged.{ahead_place, first_updates}
+use Rattle.history.proofs.Versions.{Stores, Keeps, Newest, newest_is, one_at_place, Last, rests, stores}
+use Rattle.history.proofs.Invariant.{Sound, Updated}
 
 pub update_or_reader : (m : Mode) → (m ≡ Update) ⊎ (m ≡ Reader)
 update_or_reader Update = inl refl

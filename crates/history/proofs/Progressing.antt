@@ -1,7 +1,7 @@
 -- Commits go through where nothing stands against them, and are refused for the stated reasons alone.
-use Rattle.std.proofs.Common.{◌≡◌, ℕ, ◌+◌, ◌<◌, ◌≤◌, Bool, true, false, cond, not, ◌&&◌, eqb, ltb, leb, ◌⊎◌, List, [], ◌∷◌, length, is_some, Some, None, Ok, Err, Option, sym, refl, ap, ◌∙◌, subst, inl, inr, ⊎_elim, arith}
+use Rattle.std.proofs.Common.{◌≡◌, ℕ, ◌+◌, ◌<◌, ◌≤◌, true, false, ltb, List, [], ◌∷◌, length, Some, None, Ok, Err, Option, sym, refl, ap, ◌∙◌, subst, ⊎_elim, arith}
 use mathlib.Core.List.Memᴰ
-use Rattle.std.proofs.lemmas.Bool.{ltb-true, ltb-false, lt-ltb, le-ltb, eqb-true, eq-eqb, leb-false, cond-true, cond-false, cond_both, and_parts, not-true, cases_lt}
+use Rattle.std.proofs.lemmas.Bool.{ltb-true, ltb-false, lt-ltb, le-ltb, eqb-true, cond-true, cond-false, cond_both}
 use Rattle.calls.specs.Numbers.{number}
 use Rattle.calls.specs.declared.call.Class.{Class}
 use Rattle.calls.specs.declared.call.Mode.{Mode}
@@ -12,9 +12,9 @@ use Rattle.calls.specs.declared.refusal.Refusal.{Refusal}
 use Rattle.calls.specs.declared.refusal.Refusal.TheVariants.{UnknownSeat, SeatEmpty, WrongPass, NotBegun, ClockSpent, RuleRefuses, VersionsFull}
 use Rattle.rules.specs.Laws.{FourLaws}
 use Rattle.history.specs.State.{Setup, Version, Transaction, Seat, held, State}
-use Rattle.history.specs.Steps.{Outcome, Answer, step, limit, most, listed, missed_of, missed, earliest, findings, cut_down, overfull, is_full, insert_version, newest, stored, store, settle, commit_in, lowest, in_running, accept, refuse, raise_and_drop, asked, pass_questions, has_pass, is_held, running_of, item_questions, down_to_anchor, natural_by, least_start}
-use Rattle.history.specs.Log.{History, Leads, log}
-use Rattle.history.specs.Promise.{◌∈◌, Lawful}
+use Rattle.history.specs.Steps.{Outcome, Answer, step, limit, most, listed, missed_of, missed, earliest, findings, cut_down, overfull, is_full, insert_version, newest, stored, store, settle, commit_in, lowest, accept, refuse, raise_and_drop, has_pass, running_of, item_questions, down_to_anchor, natural_by, least_start}
+use Rattle.history.specs.Log.{History, log}
+use Rattle.history.specs.Promise.{◌∈◌}
 use Rattle.history.specs.Progress.{Committing, UndisturbedCommitsGoThrough, OnlyTheRuleRefuses, OnlyFullListsRefuse}
 use Rattle.history.proofs.Invariant.{Inv, board_has}
 use Rattle.history.proofs.Picks.{version_by}
@@ -22,7 +22,7 @@ use Rattle.history.proofs.Found.{gather_in}
 use Rattle.history.proofs.Granting.{board_gives}
 use Rattle.history.proofs.Asked.{with_running_cases, with_running_yes, asked_yes}
 use Rattle.history.proofs.KeptStep.{invariant}
-use Rattle.history.proofs.Lowest.{Lowest, lowest_is, lowest_below, lowest_none}
+use Rattle.history.proofs.Lowest.{lowest_is, lowest_below, lowest_none}
 
 has_pass_is : (p pass : ℕ) (class : Class) (o : Option Transaction) (x : Seat) → x ≡ held p class o → has_pass pass x ≡ true → p ≡ pass
 has_pass_is p pass class o x e has = eqb-true p pass (ap (has_pass pass) (sym e) ∙ has)

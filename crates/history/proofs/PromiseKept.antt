@@ -1,18 +1,17 @@
 -- Every history keeps the promise.
-use Rattle.std.proofs.Common.{◌≡◌, ℕ, ◌+◌, ◌<◌, ◌≤◌, Bool, true, false, cond, ltb, ◌⊎◌, List, [], ◌∷◌, Some, None, Ok, Err, filter, sym, refl, ap, ◌∙◌, subst, inl, inr, ⊎_elim, arith}
+use Rattle.std.proofs.Common.{◌≡◌, ℕ, ◌<◌, ◌≤◌, true, ltb, List, [], ◌∷◌, Ok, filter, sym, refl, ap, ◌∙◌, subst, inl, inr, ⊎_elim, arith}
 use Rattle.std.proofs.lemmas.Bool.{cases_lt, lt-ltb, cond-true}
 use Rattle.calls.specs.declared.call.Mode.{Mode}
 use Rattle.calls.specs.declared.call.Mode.TheVariants.{Reader, Update}
 use Rattle.calls.specs.declared.call.Call.{Call}
 use Rattle.calls.specs.declared.call.Call.TheVariants.{Show}
 use Rattle.calls.specs.declared.reply.Reply.TheVariants.{Code}
-use Rattle.rules.specs.Laws.{FourLaws}
 use Rattle.history.specs.State.{Setup, State}
-use Rattle.history.specs.Steps.{Answer, Outcome, step, newest, asked, item_questions, accept, refuse}
-use Rattle.history.specs.Log.{History, nothing, ◌▷◌, Leads, from_new, one_more, Trace, Grant, log}
-use Rattle.history.specs.Order.{arranged, order}
+use Rattle.history.specs.Steps.{Answer, Outcome, step, newest, accept}
+use Rattle.history.specs.Log.{History, ◌▷◌, Leads, from_new, one_more, Grant, log}
+use Rattle.history.specs.Order.{order}
 use Rattle.history.specs.Run.{run, all_rest}
-use Rattle.history.specs.Promise.{◌∈◌, StandsAhead, Promise, Lawful, EveryHistoryKeepsThePromise}
+use Rattle.history.specs.Promise.{◌∈◌, EveryHistoryKeepsThePromise}
 use Rattle.history.proofs.Arranged.{Ahead, First, stands_ahead, arranged_has, shuffled_arranged}
 use Rattle.history.proofs.Versions.{run_leaves}
 use Rattle.history.proofs.Invariant.{Sound, Inv, log_has}

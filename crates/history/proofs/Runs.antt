@@ -3,7 +3,6 @@ use Rattle.std.proofs.Common.{◌≡◌, ℕ, Bool, true, false, cond, eqb, ◌�
 use mathlib.Core.List.{Memᴰ}
 use Rattle.std.specs.List.{AllByRecursion as All}
 use Rattle.std.proofs.lemmas.Bool.{cond-false}
-use Rattle.history.specs.State.{put}
 use Rattle.history.specs.Log.{Deeds, begun, and_read, and_wrote, Grant}
 use Rattle.history.specs.Order.{ahead, put_in}
 use Rattle.history.specs.Run.{Table, after, Answered, run, EachAnswered}

@@ -1,18 +1,17 @@
 -- Version lists: what they keep of the granted updates, and which of these a test picks.
-use Rattle.std.proofs.Common.{◌≡◌, ℕ, ◌+◌, ◌<◌, ◌≤◌, Bool, true, false, cond, not, ◌&&◌, ◌||◌, eqb, ltb, leb, ◌⊎◌, List, [], ◌∷◌, Some, None, filter, sym, refl, ap, ◌∙◌, subst, inl, inr, ⊎_elim, arith}
+use Rattle.std.proofs.Common.{◌≡◌, ℕ, ◌<◌, ◌≤◌, Bool, true, false, cond, ◌⊎◌, List, [], ◌∷◌, filter, sym, refl, ap, ◌∙◌, subst, ⊎_elim, arith}
 use mathlib.Core.List.Memᴰ
 use mathlib.Core.List.{Memᴰ}
 use Rattle.std.specs.List.{AllByRecursion as All}
-use Rattle.std.proofs.lemmas.Bool.{ltb-true, ltb-false, eqb-true, eqb-false, leb-true, leb-false, both_ways}
-use Rattle.calls.specs.declared.call.Mode.{Mode}
-use Rattle.calls.specs.declared.call.Mode.TheVariants.{Reader, Update}
+use Rattle.std.proofs.lemmas.Bool.{both_ways}
+use Rattle.calls.specs.declared.call.Mode.TheVariants.{Update}
 use Rattle.history.specs.State.{Setup, Version, at_rest}
-use Rattle.history.specs.Steps.{newest, natural_by, newer, down_to_anchor, insert_version}
-use Rattle.history.specs.Log.{Trace, Grant}
-use Rattle.history.specs.Order.{ahead, arranged}
-use Rattle.history.specs.Run.{Table, run, all_rest}
+use Rattle.history.specs.Steps.{newest}
+use Rattle.history.specs.Log.{Grant}
+use Rattle.history.specs.Order.{arranged}
+use Rattle.history.specs.Run.{run, all_rest}
 use Rattle.history.specs.Promise.{◌∈◌, InOrder}
-use Rattle.history.proofs.Runs.{written, Sees, Writes, all_in, run_none, run_last}
+use Rattle.history.proofs.Runs.{Writes, all_in, run_none, run_last}
 use Rattle.history.proofs.Arranged.{Ahead, ahead_told, in_arranged, arranged_has}
 
 -- places fall from the head on

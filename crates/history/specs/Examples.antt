@@ -4,7 +4,7 @@ use Rattle.std.specs.List.{AllByRecursion as All}
 use Rattle.calls.specs.declared.call.Class.TheVariants.{Member, Guest}
 use Rattle.calls.specs.declared.call.Mode.TheVariants.{Reader, Update}
 use Rattle.calls.specs.declared.call.Call.{Call}
-use Rattle.calls.specs.declared.call.Call.TheVariants.{Admit, Revoke, Begin, Read, Write as Writing, Commit, Abandon, Show}
+use Rattle.calls.specs.declared.call.Call.TheVariants.{Admit, Revoke, Begin, Read, Write as Writing, Commit, Show}
 use Rattle.calls.specs.declared.reply.Reply.TheVariants.{Done, Pass, Start, Code, Granted}
 use Rattle.calls.specs.declared.refusal.Refusal.TheVariants.{SeatEmpty, WrongPass, UnknownCode, RuleRefuses, VersionsFull}
 use Rattle.rules.specs.declared.findings.Findings.{Findings}

@@ -1,11 +1,10 @@
 -- What is read off a list of calls and their answers, and off nothing else: the transactions, what each did, and how it ended.
-use Rattle.std.specs.Prelude.{ℕ, ◌+◌, Bool, true, false, cond, ◌&&◌, List, [], ◌∷◌, is_ok, Some, None, Ok, Err, Option, Result, nat_le}
+use Rattle.std.specs.Prelude.{ℕ, ◌+◌, Bool, false, cond, ◌&&◌, List, [], ◌∷◌, is_ok, Some, None, Ok, Err, Option, nat_le}
 use Rattle.std.specs.Option.{option_map}
 use Rattle.calls.specs.Numbers.{number}
 use Rattle.calls.specs.declared.call.Mode.{Mode}
 use Rattle.calls.specs.declared.call.Call.{Call}
 use Rattle.calls.specs.declared.call.Call.TheVariants.{Admit, Revoke, Begin, Read, Write as Writing, Commit, Abandon, Show}
-use Rattle.calls.specs.declared.reply.Reply.{Reply}
 use Rattle.calls.specs.declared.reply.Reply.TheVariants.{Done, Pass, Start, Code, Granted}
 use Rattle.history.specs.State.{Setup, State, put, new_board}
 use Rattle.history.specs.Steps.{Answer, step}

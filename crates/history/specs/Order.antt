@@ -1,5 +1,5 @@
 -- The serial order of the granted transactions.
-use Rattle.std.specs.Prelude.{ℕ, Bool, true, false, cond, ◌&&◌, ◌||◌, List, [], ◌∷◌, ◌==◌, nat_lt}
+use Rattle.std.specs.Prelude.{Bool, true, false, cond, ◌&&◌, ◌||◌, List, [], ◌∷◌, ◌==◌, nat_lt}
 use Rattle.calls.specs.declared.call.Mode.{Mode}
 use Rattle.calls.specs.declared.call.Mode.TheVariants.{Reader, Update}
 use Rattle.history.specs.Log.{History, Grant, log}

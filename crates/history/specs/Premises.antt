@@ -1,6 +1,6 @@
 -- The premises of the theorems can be met: states that a list of calls leads to, in which a commit goes through, is refused with 14, and
 -- is refused with 15.
-use Rattle.std.specs.Prelude.{◌≡◌, ℕ, ◌+◌, ◌<◌, false, List, [], Some, Ok, Err}
+use Rattle.std.specs.Prelude.{◌≡◌, ℕ, ◌+◌, ◌<◌, false, [], Some, Err}
 use Rattle.calls.specs.declared.call.Class.{Class}
 use Rattle.calls.specs.declared.call.Call.TheVariants.{Commit}
 use Rattle.calls.specs.declared.refusal.Refusal.{Refusal}

@@ -1,5 +1,5 @@
 -- What keeps the promise from being empty: commits go through where nothing stands against them, and are refused for the stated reasons alone.
-use Rattle.std.specs.Prelude.{◌≡◌, ℕ, zero, suc, ◌+◌, ◌<◌, ◌≤◌, Bool, true, false, List, [], ◌∷◌, map, length, Some, None, Ok, Err, filter, Option, ◌≢◌}
+use Rattle.std.specs.Prelude.{◌≡◌, ℕ, zero, suc, ◌+◌, ◌<◌, false, List, [], ◌∷◌, map, length, Some, None, Ok, Err, filter, ◌≢◌}
 use Rattle.calls.specs.declared.call.Class.{Class}
 use Rattle.calls.specs.declared.call.Mode.TheVariants.{Update}
 use Rattle.calls.specs.declared.call.Call.TheVariants.{Commit, Show}

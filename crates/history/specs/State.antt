@@ -1,6 +1,6 @@
 -- What a board keeps, as numbers. Of a kind of item it needs the count of codes and the code of the rest state,
 -- of an admission rule what it answers to findings.
-use Rattle.std.specs.Prelude.{ℕ, Bool, false, cond, List, [], ◌∷◌, Some, None, Option, ◌==◌}
+use Rattle.std.specs.Prelude.{ℕ, Bool, cond, List, [], ◌∷◌, Option, ◌==◌}
 use Rattle.calls.specs.declared.call.Class.{Class}
 use Rattle.calls.specs.declared.call.Mode.{Mode}
 use Rattle.calls.specs.declared.write.Write.{Write}

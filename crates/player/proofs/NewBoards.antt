@@ -8,7 +8,7 @@ use Rattle.board.specs.declared.board.Board.{Board}
 use Rattle.board.specs.Sizes.{fits}
 use Rattle.board.specs.Holding.{setup_of, setup_for, Opened}
 use Rattle.player.specs.Lines.{LinesAnswered}
-use Rattle.player.specs.Scripts.{CommandsAnswered, BoardAnswered, slots_lent}
+use Rattle.player.specs.Scripts.{BoardAnswered, slots_lent}
 
 when_true : (t : Bool) (P Q : Type 0) → t ≡ true → P → MatchBool t P Q
 when_true t P Q e p = subst (λ b. MatchBool b P Q) (sym e) p

@@ -10,7 +10,7 @@ use Rattle.script.specs.Answers.{answer}
 use Rattle.board.specs.declared.board.Board.{Board}
 use Rattle.board.specs.Holding.{setup_of, Holds}
 use Rattle.board.proofs.Keeping.{lawful_setup}
-use Rattle.player.specs.Lines.{Outcome, Goes, text_of, LineTold, LinesPlayed, LinesAnswered}
+use Rattle.player.specs.Lines.{Outcome, Goes, text_of, LineTold, LinesAnswered}
 
 module _ {S R : Type 0} (state : S → Type 0) (coded : S → ℕ) (rest : S) (count : ℕ) (answers : R → Findings → Option ℕ) where
   -- some lines have been played, and others, from line n on, are to come: whatever these are told, it completes what the first were told

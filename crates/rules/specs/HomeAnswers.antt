@@ -1,5 +1,4 @@
 use Rattle.std.specs.Prelude.{ℕ, cond, Some, None, Option, nat_lt}
-use Rattle.calls.specs.declared.call.Class.{Class}
 use Rattle.calls.specs.declared.call.Class.TheVariants.{Member, Guest}
 use Rattle.rules.specs.declared.findings.Findings.{Findings}
 

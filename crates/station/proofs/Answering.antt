@@ -4,7 +4,7 @@ use Rattle.std.proofs.lemmas.List.{append_assoc, append-nil, take_more_set, take
 use Rattle.calls.specs.declared.call.Call.{Call}
 use Rattle.calls.specs.declared.fault.Fault.{Fault}
 use Rattle.rules.specs.declared.findings.Findings.{Findings}
-use Rattle.history.specs.State.{Setup, State}
+use Rattle.history.specs.State.{State}
 use Rattle.history.specs.Steps.{Answer as Reported, step}
 use Rattle.history.specs.Log.{History, Leads}
 use Rattle.history.proofs.PromiseKept.{last_step}
@@ -14,7 +14,7 @@ use Rattle.station.specs.declared.answer.Answer.{Answer}
 use Rattle.station.specs.declared.request.Request.{Request}
 use Rattle.station.specs.Answers.{told, faulty}
 use Rattle.station.specs.Requests.{call_of}
-use Rattle.station.specs.Playing.{answer_to, left_by, answers_from, Answered, Answers, AnswersAll}
+use Rattle.station.specs.Playing.{answer_to, left_by, answers_from, Answers, AnswersAll}
 use Rattle.station.proofs.Leading.{same_state}
 
 module _ {S R : Type 0} (state : S → Type 0) (coded : S → ℕ) (rest : S) (count : ℕ) (answers : R → Findings → Option ℕ) where

@@ -2,7 +2,7 @@
 use Rattle.std.proofs.Common.{◌≡◌, ℕ, sym, refl, ap, ◌∙◌, arith}
 use Rattle.history.specs.State.{Setup, State, new_board}
 use Rattle.history.specs.Steps.{step}
-use Rattle.history.specs.Log.{History, nothing, ◌▷◌, Leads, from_new, one_more}
+use Rattle.history.specs.Log.{History, nothing, Leads, from_new, one_more}
 use Rattle.history.proofs.PromiseKept.{last_step}
 
 only_new : (b : Setup) {k : History} {s : State} → Leads b k s → k ≡ nothing → s ≡ new_board b

@@ -1,5 +1,5 @@
 -- The board that is asked for.
-use Rattle.std.specs.Prelude.{ℕ, Bool, true, false, cond, Some, None, Option, ◌==◌}
+use Rattle.std.specs.Prelude.{ℕ, cond, Some, None, Option, ◌==◌}
 use Rattle.calls.specs.declared.header.BoardKind.{BoardKind}
 use Rattle.calls.specs.declared.header.BoardKind.TheVariants.{Drive, Switch}
 use Rattle.calls.specs.declared.header.RuleName.{RuleName}

@@ -1,10 +1,10 @@
 -- Where versions stay and where a new one goes in.
-use Rattle.std.proofs.Common.{◌≡◌, ℕ, suc, ◌+◌, ◌-◌, ◌<◌, ◌≤◌, Bool, true, false, cond, eqb, ltb, leb, List, [], ◌∷◌, ◌++◌, map, length, get_or, take, drop, sym, refl, ap, ◌∙◌, subst, ⊎_elim, arith}
+use Rattle.std.proofs.Common.{◌≡◌, ℕ, suc, ◌-◌, ◌<◌, ◌≤◌, Bool, true, false, cond, eqb, ltb, leb, List, [], ◌∷◌, ◌++◌, length, get_or, take, drop, sym, refl, ap, ◌∙◌, subst, ⊎_elim, arith}
 use Rattle.std.proofs.lemmas.Bool.{cond-true, cond-false, le-leb, lt-leb, lt-ltb, le-ltb, eq-eqb, ne_eqb, cases_order}
 use Rattle.std.proofs.lemmas.List.{take-take, length-take-le, length-map, length-append, length-drop}
 use Rattle.std.proofs.lemmas.Slice.{between_is}
 use Rattle.history.specs.State.{Version as Kept}
-use Rattle.history.specs.Steps.{natural_by, down_to_anchor, insert_version}
+use Rattle.history.specs.Steps.{down_to_anchor, insert_version}
 use Rattle.versions.specs.declared.version.Version.{Version}
 use Rattle.versions.specs.declared.slots.Spot.{Spot}
 use Rattle.versions.specs.declared.slots.Sight.TheVariants.{ByNatural, ByPlace}

@@ -1,17 +1,16 @@
 -- What slots hold once a version is stored.
-use Rattle.std.proofs.Common.{◌≡◌, ℕ, zero, suc, ◌+◌, ◌-◌, ◌<◌, ◌≤◌, true, false, List, [], ◌∷◌, ◌++◌, length, take, drop, replicate, sym, refl, ap, ◌∙◌, subst, append_assoc, arith}
+use Rattle.std.proofs.Common.{◌≡◌, ℕ, zero, suc, ◌+◌, ◌-◌, ◌<◌, ◌≤◌, true, false, List, ◌∷◌, ◌++◌, length, take, drop, replicate, sym, refl, ap, ◌∙◌, subst, append_assoc, arith}
 use lib.ListN.{length-replicate}
 use lib.LanesLaws.{map-replicate}
 use Rattle.std.specs.List.{AllByRecursion as All}
 use Rattle.std.proofs.lemmas.List.{map-append, take_at, length-take-le, length-append, length-drop}
 use Rattle.std.proofs.ByRecursion.{All-append, All-take, All-drop}
-use Rattle.history.specs.State.{Version as Kept}
 use Rattle.history.specs.Steps.{down_to_anchor, insert_version}
 use Rattle.versions.specs.declared.version.Version.{Version}
 use Rattle.versions.specs.declared.slots.Spot.{Spot}
-use Rattle.versions.specs.Slots.{as_code, as_codes, padded, rest_version}
+use Rattle.versions.specs.Slots.{as_code, as_codes, rest_version}
 use Rattle.versions.specs.Plans.{Spotted, Stored}
-use Rattle.versions.proofs.Spots.{stored_taken, stored_free, length_taken, length_free}
+use Rattle.versions.proofs.Spots.{stored_taken, stored_free, length_free}
 
 pub all_replicate : {X : Type 0} (P : X → Type 0) (n : ℕ) (x : X) → P x → All P (replicate n x)
 all_replicate P zero x p = tt

@@ -1,14 +1,13 @@
 -- What a walk down the slots tells of the list that they hold.
-use Rattle.std.proofs.Common.{◌≡◌, ℕ, suc, ◌+◌, ◌<◌, ◌≤◌, min, Bool, true, false, cond, ◌||◌, eqb, ltb, leb, List, [], ◌∷◌, ◌++◌, map, length, get_or, take, drop, Some, None, Option, sym, refl, ap, ◌∙◌, subst, append_assoc, arith}
+use Rattle.std.proofs.Common.{◌≡◌, ℕ, suc, ◌+◌, ◌<◌, ◌≤◌, min, Bool, true, false, cond, ◌||◌, leb, List, [], ◌∷◌, ◌++◌, length, get_or, take, Some, None, Option, sym, refl, ap, ◌∙◌, subst, append_assoc, arith}
 use Rattle.std.proofs.lemmas.List.{take_more, map-append}
-use Rattle.std.proofs.lemmas.Bool.{cond-true, cond-false}
 use Rattle.history.specs.State.{Setup, Version as Kept, at_rest}
-use Rattle.history.specs.Steps.{newest, natural_by, place_by, newer, earliest, any, is_warped}
+use Rattle.history.specs.Steps.{newest, newer, earliest, any, is_warped}
 use Rattle.versions.specs.declared.version.Version.{Version}
 use Rattle.versions.specs.declared.slots.Missed.{Missed}
 use Rattle.versions.specs.declared.slots.Sight.{Sight}
 use Rattle.versions.specs.declared.slots.Sight.TheVariants.{ByNatural, ByPlace}
-use Rattle.versions.specs.Slots.{as_code, as_codes, number_of, in_sight, sees, first_index}
+use Rattle.versions.specs.Slots.{as_code, as_codes, in_sight, sees, first_index}
 use Rattle.versions.specs.Plans.{Tells, earlier}
 
 pub sees_is : {S : Type 0} (coded : S → ℕ) (sight : Sight) (limit : ℕ) (v : Version S) → sees sight limit (as_code coded v) ≡ in_sight sight limit v

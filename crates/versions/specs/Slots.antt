@@ -1,5 +1,5 @@
 -- How a list of versions lies in slots.
-use Rattle.std.specs.Prelude.{ℕ, zero, suc, ◌-◌, Bool, cond, List, [], ◌∷◌, ◌++◌, map, length, replicate, nat_le}
+use Rattle.std.specs.Prelude.{ℕ, suc, ◌-◌, Bool, cond, List, [], ◌∷◌, ◌++◌, map, length, replicate, nat_le}
 use Rattle.history.specs.State.{Version as Kept}
 use Rattle.history.specs.Steps.{natural_by, place_by}
 use Rattle.versions.specs.declared.version.Version.{Version}

@@ -1,4 +1,3 @@
-use Rattle.std.proofs.Common.{◌≡◌, length}
 use Rattle.station.proofs.Answering.{Reached}
 use Rattle.station.proofs.run.answer_all.Given as goal
 

@@ -1,6 +1,5 @@
-use Rattle.std.proofs.Common.{◌<◌, ◌≤◌, length, get_or, sym, ap, ◌∙◌, subst, arith}
+use Rattle.std.proofs.Common.{get_or, sym, ap, ◌∙◌, arith}
 use Rattle.history.specs.State.{Version as Kept}
-use Rattle.versions.specs.Slots.{first_index, in_sight}
 use Rattle.versions.proofs.Walked.{newest_found, newest_lost}
 use Rattle.versions.proofs.slots.code_in_sight.Goals as goal
 

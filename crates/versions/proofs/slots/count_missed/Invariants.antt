@@ -1,4 +1,4 @@
-use Rattle.std.proofs.Common.{◌≡◌, ℕ, ◌≤◌, List, ◌++◌, length, take}
+use Rattle.std.proofs.Common.{ℕ, ◌≤◌, List, ◌++◌, length, take}
 use Rattle.history.specs.State.{Version as Kept}
 use Rattle.versions.specs.Slots.{as_codes}
 use Rattle.versions.specs.Plans.{Tells}

@@ -1,4 +1,4 @@
-use Rattle.std.proofs.Common.{◌≡◌, true, false, sym, ap, subst, arith}
+use Rattle.std.proofs.Common.{◌≡◌, true, false, subst, arith}
 use Rattle.std.proofs.lemmas.Bool.{le-leb, lt-leb}
 use Rattle.versions.specs.Slots.{in_sight}
 use Rattle.versions.proofs.Indices.{walk_more, walk_found, walk_end}

@@ -1,4 +1,4 @@
-use Rattle.std.proofs.Common.{sym, ap, ◌∙◌, arith}
+use Rattle.std.proofs.Common.{sym, ap, ◌∙◌}
 use Rattle.versions.proofs.Walked.{head_found, head_lost}
 use Rattle.versions.proofs.slots.head_code.Goals as goal
 

@@ -1,4 +1,4 @@
-use Rattle.std.proofs.Common.{length, take, sym, ap, ◌∙◌, subst, add-one, arith}
+use Rattle.std.proofs.Common.{take, ap, ◌∙◌, add-one, arith}
 use Rattle.versions.specs.Slots.{as_codes}
 use Rattle.versions.proofs.Spots.{cut_found, cut_lost}
 use Rattle.versions.proofs.slots.kept.Goals as goal

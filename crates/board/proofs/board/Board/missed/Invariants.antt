@@ -1,4 +1,3 @@
-use Rattle.std.proofs.Common.{◌≤◌}
 use Rattle.history.specs.State.{State, Transaction as Running}
 use Rattle.history.specs.Steps.{gather, missed_of}
 use Rattle.versions.specs.Plans.{Tells}

@@ -1,7 +1,7 @@
-use Rattle.std.proofs.Common.{replicate, sym, refl, ap, ◌∙◌, arith}
+use Rattle.std.proofs.Common.{replicate, sym, refl, ap, ◌∙◌}
 use Rattle.history.specs.Log.{from_new}
 use Rattle.versions.specs.Slots.{rest_version}
-use Rattle.board.proofs.Making.{Sized, sized, new_holds}
+use Rattle.board.proofs.Making.{sized, new_holds}
 use Rattle.board.proofs.board.Board.new.Goals as goal
 
 pub returns : goal.returns

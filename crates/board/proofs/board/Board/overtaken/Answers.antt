@@ -1,4 +1,4 @@
-use Rattle.std.proofs.Common.{◌≡◌, leb, length, get_or, take, sym, ap, ◌∙◌, subst, arith}
+use Rattle.std.proofs.Common.{◌≡◌, leb, get_or, ap, ◌∙◌}
 use Rattle.std.proofs.lemmas.List.{take_all, get_or_default}
 use Rattle.calls.specs.declared.write.Write.{Write}
 use Rattle.history.specs.Steps.{any}

@@ -1,4 +1,4 @@
-use Rattle.std.proofs.Common.{length, get_or, Some, sym, ap, ◌∙◌, arith}
+use Rattle.std.proofs.Common.{get_or, Some, sym, ap, ◌∙◌, arith}
 use Rattle.history.specs.Steps.{listed}
 use Rattle.board.proofs.Listing.{listed_found, listed_lost}
 use Rattle.board.proofs.transaction.Transaction.listed.Goals as goal
