@@ -1,6 +1,6 @@
 -- What a commit leaves.
 use Rattle.std.proofs.Common.{◌≡◌, ℕ, ◌+◌, ◌*◌, ◌<◌, ◌≤◌, false, cond, ltb, List, length, get_or, set, Some, None, Ok, Err, Option, sym, refl, ap, ◌∙◌, subst, ⊎_elim, arith, length-set, get_or-set_other, get_or-set_same}
-use Rattle.std.specs.List.{AllByRecursion as All}
+use Rattle.std.specs.List.{AllByRecursion}
 use Rattle.std.proofs.lemmas.Bool.{cond-true, cond-false, lt-ltb, le-ltb, ltb-false, cases_eq}
 use Rattle.calls.specs.declared.call.Class.{Class}
 use Rattle.calls.specs.declared.call.Mode.TheVariants.{Update}
@@ -53,7 +53,7 @@ module _ {S R : Type 0} (state : S → Type 0) (coded : S → ℕ) (rest : S) (c
       → OnlyMemory before b → Raised b between t → clock ≡ next
       → ((item : ℕ) → item < before.items → as_codes coded (slots_of b.versions.now item) ≡ padded 8 (at_rest its_setup) (versions item))
       → ((item : ℕ) → item < before.items → length (versions item) ≤ 8)
-      → All (λ (v : Version S). state v.state) b.versions.now
+      → AllByRecursion (λ (v : Version S). state v.state) b.versions.now
       → Holds state coded rest count answers (left b between.stamps seat clock)
       (record { clock = next; passes = s.passes; items = λ item. record { stamp = (raised s x item).stamp; versions = versions item }; seats = put s.seats seat (runs None (s.seats seat)) })
   left_holds b between seat clock next t x versions s k r lt o up ticks lists few states = record {

@@ -1,6 +1,6 @@
 -- What loops over the items, the write list and the seats find.
 use Rattle.std.proofs.Common.{◌≡◌, ℕ, zero, suc, ◌+◌, ◌*◌, ◌<◌, ◌≤◌, min, Bool, true, false, cond, ◌||◌, ltb, leb, List, [], ◌∷◌, ◌++◌, length, get_or, take, replicate, is_some, Some, None, Option, sym, refl, ap, ◌∙◌, subst, ⊎_elim, append-nil, add-one, arith}
-use Rattle.std.specs.List.{AllByRecursion as All}
+use Rattle.std.specs.List.{AllByRecursion}
 use Rattle.std.proofs.lemmas.Bool.{cond-true, cond-false, le-leb, lt-leb, lt-ltb, or_right, both_ways, cases_lt}
 use Rattle.std.proofs.lemmas.List.{take_more}
 use Rattle.std.proofs.ByRecursion.{All-get_or}
@@ -116,7 +116,7 @@ module _ {S R : Type 0} (state : S → Type 0) (coded : S → ℕ) (rest : S) (c
       → ((s : State) (x : Running) → Holds state coded rest count answers board s → Runs (setup_of coded rest count answers board) t x → ws ≡ x.writes → before ≡ any (λ (v : Write). leb x.start (s.items v.item).stamp) (take k ws))
       → (s : State) (x : Running) → Holds state coded rest count answers board s → Runs (setup_of coded rest count answers board) t x → ws ≡ x.writes → after ≡ any (λ (v : Write). leb x.start (s.items v.item).stamp) (take (k + 1) ws)
   over_more t ws k before after w lt is one so_far s x h r e =
-      one s h (subst (λ (v : Write). v.item < board.items) (sym is) (All-get_or (λ (v : Write). v.item < board.items) ws k w lt (subst (All (λ (v : Write). v.item < board.items)) (sym e) r.known)))
+      one s h (subst (λ (v : Write). v.item < board.items) (sym is) (All-get_or (λ (v : Write). v.item < board.items) ws k w lt (subst (AllByRecursion (λ (v : Write). v.item < board.items)) (sym e) r.known)))
       ∙ ap (λ k. k || leb t.start (s.items w.item).stamp) (so_far s x h r e)
       ∙ ap (λ n. any (λ (v : Write). leb x.start (s.items v.item).stamp) (take k ws) || leb n (s.items w.item).stamp) r.start
       ∙ ap (λ (v : Write). any (λ (v : Write). leb x.start (s.items v.item).stamp) (take k ws) || leb x.start (s.items v.item).stamp) is

@@ -2,7 +2,7 @@
 use Rattle.std.proofs.Common.{◌≡◌, ℕ, zero, suc, ◌+◌, ◌*◌, ◌≤◌, true, leb, List, ◌∷◌, length, get_or, take, drop, replicate, Option, sym, refl, ap, ◌∙◌, subst, arith, MutBor}
 use lib.ListN.{length-replicate}
 use lib.LanesLaws.{map-replicate}
-use Rattle.std.specs.List.{AllByRecursion as All}
+use Rattle.std.specs.List.{AllByRecursion}
 use Rattle.std.proofs.lemmas.Bool.{leb-true, and_parts}
 use Rattle.rules.specs.declared.findings.Findings.{Findings}
 use Rattle.history.specs.State.{new_board, empty}
@@ -62,5 +62,5 @@ new_holds {S} state coded rest count answers items seats rule versions resting i
   memory = ap length laid ∙ length-replicate (items * 8) (rest_version rest) ∙ omega arith;
   lists = λ item lt. ap (λ l. as_codes coded (slots_of l item)) laid ∙ ap (as_codes coded) (part_replicate 8 (8 * item) (items * 8) (rest_version rest) (omega arith)) ∙ map-replicate (as_code coded) 8 (rest_version rest);
   few_versions = λ item _. omega arith;
-  states = subst (All (λ (v : Version S). state v.state)) (sym laid) (all_replicate (λ (v : Version S). state v.state) (items * 8) (rest_version rest) resting);
+  states = subst (AllByRecursion (λ (v : Version S). state v.state)) (sym laid) (all_replicate (λ (v : Version S). state v.state) (items * 8) (rest_version rest) resting);
 }

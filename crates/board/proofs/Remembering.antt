@@ -1,7 +1,7 @@
 -- Slots within the version memory.
 use Rattle.std.proofs.Common.{◌≡◌, ℕ, ◌+◌, ◌-◌, ◌*◌, ◌≤◌, List, ◌++◌, length, take, drop, sym, ap, ◌∙◌, subst, ⊎_elim, arith, take-append-drop}
 use borrow.Rule.Slice.PartMut.{put_mid}
-use Rattle.std.specs.List.{AllByRecursion as All}
+use Rattle.std.specs.List.{AllByRecursion}
 use Rattle.std.proofs.lemmas.Bool.{cases_order}
 use Rattle.std.proofs.lemmas.List.{take_at, drop_at, length-take-le, length-append, length-drop, take-append-le, drop-append-le}
 use Rattle.std.proofs.ByRecursion.{All-append, All-take, All-drop}
@@ -36,7 +36,7 @@ module _ {X : Type 0} (item : ℕ) (xs ys : List X) (fits : 8 * item + 8 ≤ len
       length-append (take (8 * item) xs) _
       ∙ omega (arith, head_long, length-append ys (drop (8 * item + 8 - 8 * item) (drop (8 * item) xs)), length-drop (8 * item + 8 - 8 * item) (drop (8 * item) xs), length-drop (8 * item) xs)
 
-  pub memory_all : (P : X → Type 0) → All P xs → All P ys → All P (put_mid (8 * item) (8 * item + 8 - 8 * item) xs ys)
+  pub memory_all : (P : X → Type 0) → AllByRecursion P xs → AllByRecursion P ys → AllByRecursion P (put_mid (8 * item) (8 * item + 8 - 8 * item) xs ys)
   memory_all P all new = All-append P (take (8 * item) xs) _ (All-take P (8 * item) xs all) (All-append P ys _ new (All-drop P (8 * item + 8 - 8 * item) _ (All-drop P (8 * item) xs all)))
 
 -- one item's slots are stored into
@@ -50,7 +50,7 @@ stored_at {S} state coded rest before after item new least slots fits st is only
   only = only (ap length is ∙ memory_long item mem slots fits eight);
   here = λ _. subst (λ l. Stored state coded rest (slots_of mem item) l new least) (sym (ap (λ l. slots_of l item) is ∙ slots_here item mem slots fits eight)) stored;
   elsewhere = λ other far. ap (λ l. slots_of l other) is ∙ slots_elsewhere item mem slots fits eight other far;
-  states = λ all n r. subst (All (λ (v : Version S). state v.state)) (sym is) (memory_all item mem slots fits eight (λ (v : Version S). state v.state) all (stored.states (All-take (λ (v : Version S). state v.state) 8 _ (All-drop (λ (v : Version S). state v.state) (8 * item) mem all)) n r));
+  states = λ all n r. subst (AllByRecursion (λ (v : Version S). state v.state)) (sym is) (memory_all item mem slots fits eight (λ (v : Version S). state v.state) all (stored.states (All-take (λ (v : Version S). state v.state) 8 _ (All-drop (λ (v : Version S). state v.state) (8 * item) mem all)) n r));
 }
   where
     mem : List (Version S)

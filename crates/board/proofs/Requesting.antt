@@ -1,6 +1,6 @@
 -- What an open transaction reads and writes.
 use Rattle.std.proofs.Common.{◌≡◌, ℕ, ◌+◌, ◌*◌, ◌<◌, ◌≤◌, Bool, true, false, cond, ◌||◌, eqb, ltb, List, [], ◌∷◌, length, get_or, set, is_some, Some, None, Ok, Err, Option, sym, refl, ap, ◌∙◌, subst, ⊎_elim, arith, length-set, get_or-set_other, get_or-set_same}
-use Rattle.std.specs.List.{AllByRecursion as All}
+use Rattle.std.specs.List.{AllByRecursion}
 use Rattle.std.proofs.lemmas.Bool.{cond-true, cond-false, lt-ltb, le-ltb, ltb-true, eqb-true, cases_eq, cases_Bool}
 use Rattle.calls.specs.declared.write.Write.{Write}
 use Rattle.calls.specs.declared.call.Class.{Class}
@@ -56,11 +56,11 @@ once_listed item code (w ∷ ws) o = ⊎_elim
     (λ e. subst OnceEach (sym (cond-false (eqb w.item item) _ _ e)) (listed_code w.item item code ws ∙ cond-false (eqb w.item item) _ _ e ∙ o.0, once_listed item code ws o.1))
     (cases_Bool (eqb w.item item))
 
-all_listed : (P : Write → Type 0) (item code : ℕ) (ws : List Write) → P (record { item = item; code = code }) → All P ws → All P (list_code item code ws)
+all_listed : (P : Write → Type 0) (item code : ℕ) (ws : List Write) → P (record { item = item; code = code }) → AllByRecursion P ws → AllByRecursion P (list_code item code ws)
 all_listed P item code [] p o = (p, tt)
 all_listed P item code (w ∷ ws) p o = ⊎_elim
-    (λ e. subst (All P) (sym (cond-true (eqb w.item item) _ _ e)) (p, o.1))
-    (λ e. subst (All P) (sym (cond-false (eqb w.item item) _ _ e)) (o.0, all_listed P item code ws p o.1))
+    (λ e. subst (AllByRecursion P) (sym (cond-true (eqb w.item item) _ _ e)) (p, o.1))
+    (λ e. subst (AllByRecursion P) (sym (cond-false (eqb w.item item) _ _ e)) (o.0, all_listed P item code ws p o.1))
     (cases_Bool (eqb w.item item))
 
 lists_runs : (b : Setup) (t u : Transaction) (x : Running) (item code : ℕ) → Runs b t x → item < b.items → code < b.codes → write_list u ≡ list_code item code (write_list t) → u.mode ≡ t.mode → u.start ≡ t.start → u.marks ≡ t.marks

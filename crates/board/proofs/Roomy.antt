@@ -3,7 +3,7 @@ use Rattle.std.proofs.Common.{◌≡◌, ℕ, zero, suc, ◌+◌, ◌-◌, ◌*�
 use mathlib.Core.List.Memᴰ
 use mathlib.Core.List.{Memᴰ}
 use lib.ListN.{length-replicate}
-use Rattle.std.specs.List.{AllByRecursion as All}
+use Rattle.std.specs.List.{AllByRecursion}
 use Rattle.std.proofs.lemmas.Bool.{cond-true, le-leb, lt-leb, leb-false, lt-ltb, le-ltb, eq-eqb, eqb-true, both_ways, cases_lt, cases_Bool}
 use Rattle.std.proofs.lemmas.List.{take_more, length-map, length-append}
 use Rattle.std.proofs.ByRecursion.{All-push, All-weaker}
@@ -33,7 +33,7 @@ not_leb : (a b : ℕ) → not (leb a b) ≡ ltb b a
 not_leb a b = ⊎_elim (λ l. ap not (lt-leb a b l) ∙ sym (lt-ltb b a l)) (λ l. ap not (le-leb a b l) ∙ sym (le-ltb b a l)) (cases_lt b a)
 
 -- what holds of all items of a list holds of a listed one
-pub at_listed : (P : ℕ → Type 0) (ws : List Write) (item code : ℕ) → listed item ws ≡ Some code → All (λ (w : Write). P w.item) ws → P item
+pub at_listed : (P : ℕ → Type 0) (ws : List Write) (item code : ℕ) → listed item ws ≡ Some code → AllByRecursion (λ (w : Write). P w.item) ws → P item
 at_listed P [] item code e k = let z : ◌≡◌ {A = ℕ} 0 1 = cc in absurd (omega arith)
 at_listed P (w ∷ ws) item code e k =
     (elim (eqb w.item item) as (λ t. eqb w.item item ≡ t → cond t (Some w.code) (listed item ws) ≡ Some code → P item) [
@@ -62,8 +62,8 @@ module _ {S R : Type 0} (state : S → Type 0) (coded : S → ℕ) (rest : S) (c
 
 -- among the items of a list the lowest that passes the test, so far as is known
 abbrev pub LowestOf : ℕ → (ℕ → Bool) → List Write → Option ℕ → Type 0
-LowestOf n test ws None = All (λ (w : Write). test w.item ≡ false) ws
-LowestOf n test ws (Some item) = (item < n) × (test item ≡ true) × All (λ (w : Write). test w.item ≡ true → item ≤ w.item) ws
+LowestOf n test ws None = AllByRecursion (λ (w : Write). test w.item ≡ false) ws
+LowestOf n test ws (Some item) = (item < n) × (test item ≡ true) × AllByRecursion (λ (w : Write). test w.item ≡ true → item ≤ w.item) ws
 
 module _ (n : ℕ) (test : ℕ → Bool) where
   pub lowest_passing : (ws : List Write) (w : Write) (o : Option ℕ) → w.item < n → test w.item ≡ true → LowestOf n test ws o → LowestOf n test (ws ++ w ∷ []) (Some (lower_of o w.item))

@@ -1,6 +1,6 @@
 -- When a board holds what the rules say.
 use Rattle.std.specs.Prelude.{◌≡◌, ℕ, ◌*◌, ◌<◌, ◌≤◌, false, List, [], ◌∷◌, length, Some, None, Option, slice_index, slice_index_or}
-use Rattle.std.specs.List.{AllByRecursion as All}
+use Rattle.std.specs.List.{AllByRecursion}
 use Rattle.calls.specs.declared.write.Write.{Write}
 use Rattle.calls.specs.declared.call.Call.{Call}
 use Rattle.rules.specs.declared.findings.Findings.{Findings}
@@ -29,8 +29,8 @@ pub record Runs (b : Setup) (t : Transaction) (x : Running) : Type 0 where
   pub marks : (item : ℕ) → item < b.items → slice_index_or t.marks item false ≡ x.marked item
   pub writes : write_list t ≡ x.writes
   pub once : OnceEach x.writes
-  pub known : All (λ (w : Write). w.item < b.items) x.writes
-  pub codes : All (λ (w : Write). w.code < b.codes) x.writes
+  pub known : AllByRecursion (λ (w : Write). w.item < b.items) x.writes
+  pub codes : AllByRecursion (λ (w : Write). w.code < b.codes) x.writes
 
 -- a seat is the one that the rules have
 abbrev pub Seated : Setup → Seat → Place → Type 0
@@ -66,7 +66,7 @@ module _ {S R : Type 0} (state : S → Type 0) (coded : S → ℕ) (rest : S) (c
     pub memory : length board.versions.now ≡ 8 * board.items
     pub lists : (item : ℕ) → item < board.items → as_codes coded (slots_of board.versions.now item) ≡ padded 8 (at_rest (setup_of coded rest count answers board)) (s.items item).versions
     pub few_versions : (item : ℕ) → item < board.items → length (s.items item).versions ≤ 8
-    pub states : All (λ (v : Version S). state v.state) board.versions.now
+    pub states : AllByRecursion (λ (v : Version S). state v.state) board.versions.now
 
   -- a new board is made for just what was asked, and holds the new state, to which the empty list of calls leads
   pub record Opened (items seats : ℕ) (rule : R) (board : Board S R) : Type 0 where

@@ -1,6 +1,6 @@
 -- What changes in the version memory.
 use Rattle.std.specs.Prelude.{◌≡◌, ℕ, ◌+◌, ◌*◌, ◌<◌, ◌≤◌, List, length, ◌≢◌}
-use Rattle.std.specs.List.{AllByRecursion as All}
+use Rattle.std.specs.List.{AllByRecursion}
 use Rattle.calls.specs.declared.write.Write.{Write}
 use Rattle.history.specs.State.{Setup, State, Transaction as Running, at_rest}
 use Rattle.history.specs.Steps.{listed, stored}
@@ -26,9 +26,9 @@ pub record StoredAt {S R : Type 0} (state : S → Type 0) (coded : S → ℕ) (r
   pub only : OnlyMemory before after
   pub here : 8 * item + 8 ≤ length before.versions.now → Stored state coded rest (slots_of before.versions.now item) (slots_of after.versions.now item) new least
   pub elsewhere : (other : ℕ) → (other ≢ item) → slots_of after.versions.now other ≡ slots_of before.versions.now other
-  pub states : All (λ (v : Version S). state v.state) before.versions.now → state new.state → state rest → All (λ (v : Version S). state v.state) after.versions.now
+  pub states : AllByRecursion (λ (v : Version S). state v.state) before.versions.now → state new.state → state rest → AllByRecursion (λ (v : Version S). state v.state) after.versions.now
 
 -- of each item that stands in the list of writes, the version that the grant stores is in its slots; all others are as the state has them
 pub record StoredAll {S : Type 0} (state : S → Type 0) (coded : S → ℕ) (b : Setup) (s : State) (x : Running) (place : ℕ) (writes : List Write) (memory : List (Version S)) : Type 0 where
   pub lists : (item : ℕ) → item < b.items → as_codes coded (slots_of memory item) ≡ padded 8 (at_rest b) (stored b s x place item (listed item writes))
-  pub states : All (λ (v : Version S). state v.state) memory
+  pub states : AllByRecursion (λ (v : Version S). state v.state) memory

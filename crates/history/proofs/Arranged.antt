@@ -2,7 +2,7 @@
 use Rattle.std.proofs.Common.{◌≡◌, ℕ, ◌<◌, ◌≤◌, Bool, true, false, cond, not, ltb, ◌⊎◌, List, [], ◌∷◌, None, filter, sym, refl, ap, ◌∙◌, subst, inl, inr, ⊎_elim, arith}
 use mathlib.Core.List.Memᴰ
 use mathlib.Core.List.{Memᴰ}
-use Rattle.std.specs.List.{AllByRecursion as All}
+use Rattle.std.specs.List.{AllByRecursion}
 use Rattle.std.specs.List.Sorted.{IsPermutation}
 use Rattle.std.proofs.lemmas.Bool.{ltb-true, eqb-true, lt-ltb, eq-eqb, or_cases, or_left, or_right, and_parts, and_from, cond-false, both_ways, cases_order}
 use Rattle.std.proofs.lemmas.List.Sorted.{IsPermutation-refl, IsPermutation-trans, IsPermutation-cons, IsPermutation-swap}
@@ -95,17 +95,17 @@ ahead_decided f g p =
     (⊎_elim (λ l. inl (inl l)) (λ l. inr (inl l)))
     (cases_order f.place g.place)
 
-pub all_map : {X : Type 0} (P Q : X → Type 0) → ((x : X) → P x → Q x) → (xs : List X) → All P xs → All Q xs
+pub all_map : {X : Type 0} (P Q : X → Type 0) → ((x : X) → P x → Q x) → (xs : List X) → AllByRecursion P xs → AllByRecursion Q xs
 all_map P Q f [] a = tt
 all_map P Q f (x ∷ xs) a = (f x a.0, all_map P Q f xs a.1)
 
-all_put_in : (P : Grant → Type 0) (g : Grant) (gs : List Grant) → P g → All P gs → All P (put_in g gs)
+all_put_in : (P : Grant → Type 0) (g : Grant) (gs : List Grant) → P g → AllByRecursion P gs → AllByRecursion P (put_in g gs)
 all_put_in P g [] p a = (p, tt)
 all_put_in P g (f ∷ fs) p a =
-    elim (ahead g f) as (λ k. All P (cond k (g ∷ f ∷ fs) (f ∷ put_in g fs))) [ true ↦ (p, a) | false ↦ (a.0, all_put_in P g fs p a.1) ]
+    elim (ahead g f) as (λ k. AllByRecursion P (cond k (g ∷ f ∷ fs) (f ∷ put_in g fs))) [ true ↦ (p, a) | false ↦ (a.0, all_put_in P g fs p a.1) ]
 
 -- where g stands ahead of the first, it stands ahead of all
-ahead_of_all : (g f : Grant) (fs : List Grant) → Ahead g f → All (λ x. ahead f x ≡ true) fs → All (λ x. ahead g x ≡ true) (f ∷ fs)
+ahead_of_all : (g f : Grant) (fs : List Grant) → Ahead g f → AllByRecursion (λ x. ahead f x ≡ true) fs → AllByRecursion (λ x. ahead g x ≡ true) (f ∷ fs)
 ahead_of_all g f fs p a = (tell_ahead g f p, all_map _ _ (λ x q. tell_ahead g x (ahead_trans g f x p (ahead_told f x q))) fs a)
 
 pub in_order_put_in : (g : Grant) (gs : List Grant) → ((f : Grant) → f ∈ gs → Ahead g f ⊎ Ahead f g) → InOrder gs → InOrder (put_in g gs)
@@ -180,7 +180,7 @@ stands_ahead f g (x ∷ xs) o (Memᴰ.tail m) n p =
 abbrev pub not_behind : Grant → Grant → Bool
 not_behind g f = not (ahead g f)
 
-kept_none : (Q : Grant → Bool) (gs : List Grant) → All (λ x. Q x ≡ false) gs → filter Q gs ≡ []
+kept_none : (Q : Grant → Bool) (gs : List Grant) → AllByRecursion (λ x. Q x ≡ false) gs → filter Q gs ≡ []
 kept_none Q [] a = refl
 kept_none Q (x ∷ xs) a = cond-false (Q x) _ _ a.0 ∙ kept_none Q xs a.1
 

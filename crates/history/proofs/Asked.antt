@@ -1,7 +1,7 @@
 -- A step's outcome has a property if each refusal has it, and what comes once all is answered "yes".
 use Rattle.std.proofs.Common.{◌≡◌, ℕ, ◌<◌, true, false, cond, ltb, List, [], ◌∷◌, is_some, Some, None, Option, refl, ap, ◌∙◌, arith}
 use Rattle.std.proofs.lemmas.Bool.{cond-true, lt-ltb, eq-eqb}
-use Rattle.std.specs.List.{AllByRecursion as All}
+use Rattle.std.specs.List.{AllByRecursion}
 use Rattle.calls.specs.declared.call.Class.{Class}
 use Rattle.calls.specs.declared.refusal.Refusal.TheVariants.{UnknownSeat, SeatEmpty, WrongPass, NotBegun}
 use Rattle.history.specs.State.{Setup, Transaction, Seat, empty, held, State}
@@ -11,7 +11,7 @@ abbrev pub AllYes : List Question → Type 0
 AllYes [] = Unit {0}
 AllYes (q ∷ qs) = (q.yes ≡ true) × AllYes qs
 
-pub asked_cases : (P : Outcome → Type 0) (qs : List Question) (s : State) (go : Outcome) → All (λ q. P (refuse q.«else» s)) qs → (AllYes qs → P go) → P (asked qs s go)
+pub asked_cases : (P : Outcome → Type 0) (qs : List Question) (s : State) (go : Outcome) → AllByRecursion (λ q. P (refuse q.«else» s)) qs → (AllYes qs → P go) → P (asked qs s go)
 asked_cases P [] s go refusals then = then tt
 asked_cases P (q ∷ qs) s go refusals then =
     (elim q.yes as (λ k. q.yes ≡ k → P (cond k (asked qs s go) (refuse q.«else» s))) [

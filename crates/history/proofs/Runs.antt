@@ -1,14 +1,14 @@
 -- Serial runs: what a run leaves at an item, and which tables make no difference to a transaction.
 use Rattle.std.proofs.Common.{◌≡◌, ℕ, Bool, true, false, cond, eqb, ◌⊎◌, List, [], ◌∷◌, Some, None, filter, Option, unwrap_or, sym, refl, ap, ◌∙◌, subst, inl, inr}
 use mathlib.Core.List.{Memᴰ}
-use Rattle.std.specs.List.{AllByRecursion as All}
+use Rattle.std.specs.List.{AllByRecursion}
 use Rattle.std.proofs.lemmas.Bool.{cond-false}
 use Rattle.history.specs.Log.{Deeds, begun, and_read, and_wrote, Grant}
 use Rattle.history.specs.Order.{ahead, put_in}
 use Rattle.history.specs.Run.{Table, after, Answered, run, EachAnswered}
 use Rattle.history.specs.Promise.{◌∈◌, InOrder}
 
-pub all_in : {X : Type 0} (P : X → Type 0) (xs : List X) (x : X) → All P xs → x ∈ xs → P x
+pub all_in : {X : Type 0} (P : X → Type 0) (xs : List X) (x : X) → AllByRecursion P xs → x ∈ xs → P x
 all_in P [] x a m = elim m [ ]
 all_in P (y ∷ ys) x a (Memᴰ.head e) = subst P (sym e) a.0
 all_in P (y ∷ ys) x a (Memᴰ.tail m) = all_in P ys x a.1 m

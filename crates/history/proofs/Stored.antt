@@ -2,7 +2,7 @@
 use Rattle.std.proofs.Common.{◌≡◌, ℕ, ◌<◌, ◌≤◌, true, false, cond, eqb, ltb, ◌⊎◌, List, [], ◌∷◌, None, sym, refl, ap, subst, inl, inr, ⊎_elim, arith}
 use mathlib.Core.List.Memᴰ
 use mathlib.Core.List.{Memᴰ}
-use Rattle.std.specs.List.{AllByRecursion as All}
+use Rattle.std.specs.List.{AllByRecursion}
 use Rattle.std.proofs.lemmas.Bool.{ltb-true, ltb-false, eqb-true, eqb-false, leb-true, leb-false}
 use Rattle.history.specs.State.{Setup, Version, Item}
 use Rattle.history.specs.Steps.{natural_by, down_to_anchor, insert_version}
@@ -27,7 +27,7 @@ pub record Cut (m : ℕ) (vs : List Version) (cut : List Version) : Type 0 where
 place_of : {u v : Version} → u ≡ v → u.place ≡ v.place
 place_of e = ap (λ (y : Version). y.place) e
 
-all_from : (P : Version → Type 0) (vs : List Version) → ((v : Version) → v ∈ vs → P v) → All P vs
+all_from : (P : Version → Type 0) (vs : List Version) → ((v : Version) → v ∈ vs → P v) → AllByRecursion P vs
 all_from P [] f = tt
 all_from P (v ∷ vs) f = (f v (Memᴰ.head refl), all_from P vs (λ u m. f u (Memᴰ.tail m)))
 

@@ -2,7 +2,7 @@
 use Rattle.std.proofs.Common.{◌≡◌, ℕ, ◌<◌, ◌≤◌, Bool, true, false, cond, ◌⊎◌, List, [], ◌∷◌, filter, sym, refl, ap, ◌∙◌, subst, ⊎_elim, arith}
 use mathlib.Core.List.Memᴰ
 use mathlib.Core.List.{Memᴰ}
-use Rattle.std.specs.List.{AllByRecursion as All}
+use Rattle.std.specs.List.{AllByRecursion}
 use Rattle.std.proofs.lemmas.Bool.{both_ways}
 use Rattle.calls.specs.declared.call.Mode.TheVariants.{Update}
 use Rattle.history.specs.State.{Setup, Version, at_rest}
@@ -17,7 +17,7 @@ use Rattle.history.proofs.Arranged.{Ahead, ahead_told, in_arranged, arranged_has
 -- places fall from the head on
 abbrev pub Falling : List Version → Type 0
 Falling [] = Unit {0}
-Falling (v ∷ vs) = All (λ u. u.place < v.place) vs × Falling vs
+Falling (v ∷ vs) = AllByRecursion (λ u. u.place < v.place) vs × Falling vs
 
 -- the version is what a granted update stored for the item
 pub record Stores (g : Grant) (item : ℕ) (v : Version) : Type 0 where

@@ -1,6 +1,6 @@
 -- Worked examples: calls on a new board, and the answers that the rules give.
 use Rattle.std.specs.Prelude.{◌≡◌, ℕ, List, [], ◌∷◌, ◌++◌, Ok, Err, Option}
-use Rattle.std.specs.List.{AllByRecursion as All}
+use Rattle.std.specs.List.{AllByRecursion}
 use Rattle.calls.specs.declared.call.Class.TheVariants.{Member, Guest}
 use Rattle.calls.specs.declared.call.Mode.TheVariants.{Reader, Update}
 use Rattle.calls.specs.declared.call.Call.{Call}
@@ -148,4 +148,4 @@ examples =
     a_revoked_pass_opens_nothing ∷ []
 
 abbrev pub EachExampleComesOut : Type 0
-EachExampleComesOut = All ComesOut examples
+EachExampleComesOut = AllByRecursion ComesOut examples

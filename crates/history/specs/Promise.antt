@@ -2,7 +2,7 @@
 use Rattle.std.specs.Prelude.{◌≡◌, ℕ, ◌<◌, ◌≤◌, true, false, cond, ◌⊎◌, List, [], ◌∷◌, ◌++◌, is_ok, Some, None, Ok, Err, Option}
 use mathlib.Core.List.{Memᴰ}
 use Rattle.std.specs.List.Sorted.{IsPermutation}
-use Rattle.std.specs.List.{AllByRecursion as All}
+use Rattle.std.specs.List.{AllByRecursion}
 use Rattle.calls.specs.declared.call.Call.{Call}
 use Rattle.calls.specs.declared.call.Call.TheVariants.{Admit, Revoke, Begin, Read, Write as Writing, Commit, Abandon, Show}
 use Rattle.calls.specs.declared.reply.Reply.TheVariants.{Done, Pass, Start, Code, Granted}
@@ -20,7 +20,7 @@ x ∈ xs = Memᴰ x xs
 -- each stands ahead of all that follow it
 abbrev pub InOrder : List Grant → Type 0
 InOrder [] = Unit {0}
-InOrder (g ∷ gs) = All (λ f. ahead g f ≡ true) gs × InOrder gs
+InOrder (g ∷ gs) = AllByRecursion (λ f. ahead g f ≡ true) gs × InOrder gs
 
 -- f stands somewhere in the list, and g somewhere behind it
 abbrev pub StandsAhead : Grant → Grant → List Grant → Type 0

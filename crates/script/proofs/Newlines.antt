@@ -2,7 +2,7 @@
 use Rattle.std.proofs.Common.{◌≡◌, ℕ, zero, suc, ◌<◌, true, false, cond, eqb, ◌⊎◌, List, [], ◌∷◌, ◌++◌, length, get_or, Some, Option, sym, refl, ap, ◌∙◌, inl, inr, ⊎_elim, arith, Bor}
 use Rattle.std.specs.Option.{option_map}
 use Rattle.std.proofs.lemmas.Bool.{cases_Bool, cond_both, true≢false, eqb-true, eqb-false}
-use Rattle.std.specs.List.{AllByRecursion as All}
+use Rattle.std.specs.List.{AllByRecursion}
 use Rattle.script.specs.Laws.{LinesMakeTheScript}
 use Rattle.script.specs.Lines.{unended, lines_of, lines_left, lines_after}
 use Rattle.script.specs.Parts.{until, after, cut, onto}
@@ -57,14 +57,14 @@ free_more : (b c : ℕ) (p : List ℕ) → eqb c b ≡ false → Free b p → Fr
 free_more b c p n h zero l e = eqb-false c b n e
 free_more b c p n h (suc i) l e = h i (omega arith) e
 
-free_onto : (b c : ℕ) (ps : List (List ℕ)) → eqb c b ≡ false → All (Free b) ps → All (Free b) (onto c ps)
+free_onto : (b c : ℕ) (ps : List (List ℕ)) → eqb c b ≡ false → AllByRecursion (Free b) ps → AllByRecursion (Free b) (onto c ps)
 free_onto b c [] n h = (free_more b c [] n (λ i l. absurd (omega arith)), tt)
 free_onto b c (p ∷ ps) n h = (free_more b c p n h.0, h.1)
 
-free_pieces : (b : ℕ) (s : List ℕ) → All (Free b) (cut b s)
+free_pieces : (b : ℕ) (s : List ℕ) → AllByRecursion (Free b) (cut b s)
 free_pieces b [] = (λ i l. absurd (omega arith), tt)
 free_pieces b (c ∷ cs) =
-    cond_both (eqb c b) ([] ∷ cut b cs) (onto c (cut b cs)) (All (Free b)) (λ e. (λ i l. absurd (omega arith), free_pieces b cs)) (λ e. free_onto b c (cut b cs) e (free_pieces b cs))
+    cond_both (eqb c b) ([] ∷ cut b cs) (onto c (cut b cs)) (AllByRecursion (Free b)) (λ e. (λ i l. absurd (omega arith), free_pieces b cs)) (λ e. free_onto b c (cut b cs) e (free_pieces b cs))
 
 ended : (s : List ℕ) → (unended s ≡ s) ⊎ (unended s ++ (10 ∷ []) ≡ s)
 ended [] = inl refl

@@ -1,6 +1,6 @@
 -- What scripts can rely on, whatever bytes they hold.
 use Rattle.std.specs.Prelude.{◌≡◌, ℕ, ◌<◌, ◌≤◌, ◌⊎◌, List, [], ◌∷◌, ◌++◌, length, Ok, Err, ◌≢◌, slice_index}
-use Rattle.std.specs.List.{AllByRecursion as All}
+use Rattle.std.specs.List.{AllByRecursion}
 use Rattle.calls.specs.declared.call.Call.{Call}
 use Rattle.calls.specs.declared.fault.Fault.{Fault}
 use Rattle.calls.specs.declared.fault.Fault.TheVariants.{TooLong, WrongPart, BadNumber, Refused}
@@ -41,4 +41,4 @@ abbrev pub NoNewline : List ℕ → Type 0
 NoNewline line = (i : ℕ) → i < length line → slice_index line i ≢ 10
 
 abbrev pub LinesMakeTheScript : Type 0
-LinesMakeTheScript = (script : List ℕ) → All NoNewline (lines_of script) × ((joined_by 10 (lines_of script) ≡ script) ⊎ (joined_by 10 (lines_of script) ++ (10 ∷ []) ≡ script))
+LinesMakeTheScript = (script : List ℕ) → AllByRecursion NoNewline (lines_of script) × ((joined_by 10 (lines_of script) ≡ script) ⊎ (joined_by 10 (lines_of script) ++ (10 ∷ []) ≡ script))

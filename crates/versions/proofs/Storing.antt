@@ -2,7 +2,7 @@
 use Rattle.std.proofs.Common.{◌≡◌, ℕ, zero, suc, ◌+◌, ◌-◌, ◌<◌, ◌≤◌, true, false, List, ◌∷◌, ◌++◌, length, take, drop, replicate, sym, refl, ap, ◌∙◌, subst, append_assoc, arith}
 use lib.ListN.{length-replicate}
 use lib.LanesLaws.{map-replicate}
-use Rattle.std.specs.List.{AllByRecursion as All}
+use Rattle.std.specs.List.{AllByRecursion}
 use Rattle.std.proofs.lemmas.List.{map-append, take_at, length-take-le, length-append, length-drop}
 use Rattle.std.proofs.ByRecursion.{All-append, All-take, All-drop}
 use Rattle.history.specs.Steps.{down_to_anchor, insert_version}
@@ -12,7 +12,7 @@ use Rattle.versions.specs.Slots.{as_code, as_codes, rest_version}
 use Rattle.versions.specs.Plans.{Spotted, Stored}
 use Rattle.versions.proofs.Spots.{stored_taken, stored_free, length_free}
 
-pub all_replicate : {X : Type 0} (P : X → Type 0) (n : ℕ) (x : X) → P x → All P (replicate n x)
+pub all_replicate : {X : Type 0} (P : X → Type 0) (n : ℕ) (x : X) → P x → AllByRecursion P (replicate n x)
 all_replicate P zero x p = tt
 all_replicate P (suc n) x p = (p, all_replicate P n x p)
 
@@ -20,7 +20,7 @@ module _ {S : Type 0} (state : S → Type 0) (coded : S → ℕ) (rest : S) (bef
   -- the front, and rest versions behind it
   laid : (after front : List (Version S)) (keep : ℕ) → after ≡ front ++ replicate (length before - keep) (rest_version rest) → length front ≡ keep → keep ≤ length before
       → insert_version (as_code coded new) (down_to_anchor least (as_codes coded before)) ≡ as_codes coded front
-      → (All (λ (v : Version S). state v.state) before → state new.state → All (λ (v : Version S). state v.state) front)
+      → (AllByRecursion (λ (v : Version S). state v.state) before → state new.state → AllByRecursion (λ (v : Version S). state v.state) front)
       → Stored state coded rest before after new least
   laid after front keep e long le is holds = record {
     long = ap length e ∙ length-append front (replicate (length before - keep) (rest_version rest)) ∙ omega (arith, length-replicate (length before - keep) (rest_version rest));
@@ -31,7 +31,7 @@ module _ {S : Type 0} (state : S → Type 0) (coded : S → ℕ) (rest : S) (bef
         ∙ ap (λ l. as_codes coded front ++ l) (map-replicate (as_code coded) (length before - keep) (rest_version rest) ∙ ap (λ n. replicate (length before - n) (as_code coded (rest_version rest))) (sym same))
         ∙ ap (λ l. l ++ replicate (length before - length l) (as_code coded (rest_version rest))) (sym is);
     unchanged = λ more. absurd (omega (arith, ap length is, map_length front, long, le));
-    states = λ all n r. subst (All (λ (v : Version S). state v.state)) (sym e) (All-append (λ (v : Version S). state v.state) front _ (holds all n) (all_replicate (λ (v : Version S). state v.state) (length before - keep) (rest_version rest) r));
+    states = λ all n r. subst (AllByRecursion (λ (v : Version S). state v.state)) (sym e) (All-append (λ (v : Version S). state v.state) front _ (holds all n) (all_replicate (λ (v : Version S). state v.state) (length before - keep) (rest_version rest) r));
   }
     where
       map_length : (vs : List (Version S)) → length (as_codes coded vs) ≡ length vs

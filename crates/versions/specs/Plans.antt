@@ -1,6 +1,6 @@
 -- What is found in slots, against what the rules say of lists.
 use Rattle.std.specs.Prelude.{◌≡◌, ℕ, ◌-◌, ◌<◌, ◌≤◌, min, cond, List, ◌∷◌, ◌++◌, length, take, drop, Some, None, Option}
-use Rattle.std.specs.List.{AllByRecursion as All}
+use Rattle.std.specs.List.{AllByRecursion}
 use Rattle.history.specs.State.{Version as Kept}
 use Rattle.history.specs.Steps.{earliest, is_warped, any, down_to_anchor, insert_version}
 use Rattle.versions.specs.declared.version.Version.{Version}
@@ -34,4 +34,4 @@ pub record Stored {S : Type 0} (state : S → Type 0) (coded : S → ℕ) (rest 
   -- without room nothing changes
   pub unchanged : length before < length (insert_version (as_code coded new) (down_to_anchor least (as_codes coded before))) → after ≡ before
   -- the slots hold states of the kind, if they did and the new one is
-  pub states : All (λ (v : Version S). state v.state) before → state new.state → state rest → All (λ (v : Version S). state v.state) after
+  pub states : AllByRecursion (λ (v : Version S). state v.state) before → state new.state → state rest → AllByRecursion (λ (v : Version S). state v.state) after

@@ -1,5 +1,5 @@
 use Rattle.std.proofs.Common.{◌≡◌, ◌<◌, not, get_or, Some, sym, ap, ◌∙◌, subst, inl, inr}
-use Rattle.std.specs.List.{AllByRecursion as All}
+use Rattle.std.specs.List.{AllByRecursion}
 use Rattle.std.proofs.lemmas.List.{take_all}
 use Rattle.std.proofs.ByRecursion.{All-get_or}
 use Rattle.calls.specs.declared.write.Write.{Write}
@@ -13,7 +13,7 @@ pub loop-w-preserved : goal.loop-w-preserved
 loop-w-preserved g c s x h r reach is e =
     let ws = c.writes_listed-w-items.result.now in
     let w = get_or ws c.loop-w.w-index (record { item = 0; code = 0 }) in
-    let known : w.item < c.args.self.now.items = All-get_or (λ (v : Write). v.item < c.args.self.now.items) ws c.loop-w.w-index _ c.loop-w-test.true (subst (All (λ (v : Write). v.item < c.args.self.now.items)) (sym e) r.known) in
+    let known : w.item < c.args.self.now.items = All-get_or (λ (v : Write). v.item < c.args.self.now.items) ws c.loop-w.w-index _ c.loop-w-test.true (subst (AllByRecursion (λ (v : Write). v.item < c.args.self.now.items)) (sym e) r.known) in
     let there = listed_at ws c.loop-w.w-index (record { item = 0; code = 0 }) c.loop-w-test.true in
     lowest_more c.args.self.now.items _ ws c.loop-w.w-index (record { item = 0; code = 0 }) c.loop-w.lowest c.if-not-has_room.lowest (not c.has_room.result) c.loop-w-test.true known
     (room_is _ _ _ _ _ c.args.self.now w.item c.args.least c.args.place c.slots.result.now c.has_room.result s x h c.slots.ensures c.has_room.ensures reach is known there.0 (ap (listed w.item) (sym e) ∙ there.1))

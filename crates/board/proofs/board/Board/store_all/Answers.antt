@@ -1,5 +1,5 @@
 use Rattle.std.proofs.Common.{◌≡◌, ◌<◌, get_or, sym, refl, ap, ◌∙◌, subst}
-use Rattle.std.specs.List.{AllByRecursion as All}
+use Rattle.std.specs.List.{AllByRecursion}
 use Rattle.std.proofs.lemmas.List.{take_all}
 use Rattle.std.proofs.ByRecursion.{All-get_or}
 use Rattle.calls.specs.declared.write.Write.{Write}
@@ -18,8 +18,8 @@ loop-w-preserved g c = (
       let ws = c.writes_listed-w-items.result.now in
       let w = get_or ws c.loop-w.w-index (record { item = 0; code = 0 }) in
       let b = setup_of g.K.Kind.coded g.K.Kind.rest g.K.Kind.count g.R.Rule.answers c.args.self.now in
-      let known : w.item < c.args.self.now.items = All-get_or (λ (v : Write). v.item < c.args.self.now.items) ws c.loop-w.w-index _ c.loop-w-test.true (subst (All (λ (v : Write). v.item < c.args.self.now.items)) (sym e) r.known) in
-      let coded : w.code < g.K.Kind.count = All-get_or (λ (v : Write). v.code < g.K.Kind.count) ws c.loop-w.w-index _ c.loop-w-test.true (subst (All (λ (v : Write). v.code < g.K.Kind.count)) (sym e) r.codes) in
+      let known : w.item < c.args.self.now.items = All-get_or (λ (v : Write). v.item < c.args.self.now.items) ws c.loop-w.w-index _ c.loop-w-test.true (subst (AllByRecursion (λ (v : Write). v.item < c.args.self.now.items)) (sym e) r.known) in
+      let coded : w.code < g.K.Kind.count = All-get_or (λ (v : Write). v.code < g.K.Kind.count) ws c.loop-w.w-index _ c.loop-w-test.true (subst (AllByRecursion (λ (v : Write). v.code < g.K.Kind.count)) (sym e) r.codes) in
       stored_more g.K.Kind.state g.K.Kind.coded g.K.Kind.rest b refl s x c.args.place c.args.least reach is room h.few_versions c.loop-w.self c.store_one.new.self ws c.loop-w.w-index (record { item = 0; code = 0 }) _
       (c.loop-w.invariant.0.long ∙ h.memory) e r.once c.loop-w-test.true known
       (λ i. record { code = (ap g.K.Kind.coded c.from_code-state.ensures ∙ g.met.K.Kind.state_gives_code_back w.code coded) i; natural = nat i; place = c.args.place })
