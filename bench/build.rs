@@ -3,7 +3,7 @@
 use std::env;
 
 fn main() {
-    for (variable, library) in [("STATION_ARCHIVE", "station"), ("RATTLE_C_ARCHIVE", "rattle_c")] {
+    for (variable, library) in [("STATION_ARCHIVE", "station"), ("LIBC_C_ARCHIVE", "libc_c")] {
         println!("cargo:rerun-if-env-changed={variable}");
         let archive = env::var(variable)
             .unwrap_or_else(|_| panic!("{variable} must name lib{library}.a: use bench/run.sh"));

@@ -1,4 +1,4 @@
-/* The proved board for C. Link libstation.a, which `rt staticlib station` writes, and the C code that rt then names.
+/* The proved board for C. Link out/libstation.a, which `rt lib` in crates/station writes, and the kit's c/liblibc_c.a.
  *
  * A whole list of requests is played on a new board, and each gets its answer. Numbers are as in docs/refusals.md. */
 #ifndef STATION_H

@@ -3,10 +3,10 @@
 
 usage: tools/plant.py [WORD...]    only bugs of these crates, or with these words in their names
 
-The bugs stand in tools/planted-bugs.txt. Each is put into a copy of the crates below target/planted and checked there over what was proved
-before (run 'rt check' first). Whatever the prover lets through is built and run with the crate's tests, its stored output and the stored
-scripts, and then compared with the reference on random scripts. The table goes to standard output, a row for each bug, and the prover's words to target/planted/messages. Exit status 1 if a bug
-survives, or is refused only because a proof names what the edited code has not.
+The bugs stand in tools/planted-bugs.txt. Each becomes a must-fail edit in a copy of the crates below target/planted, where 'rt must-fail'
+tries it alone. Whatever the prover lets through is put into the copy's code, and the copy's programs and tests are built and run and then
+compared with the reference on random scripts. The table goes to standard output, a row for each bug, and the prover's words to
+target/planted/messages. Exit status 1 if a bug survives, or is refused only because a proof names what the edited code has not.
 """
 import pathlib
 import re
@@ -19,7 +19,7 @@ from dataclasses import dataclass
 ROOT = pathlib.Path(__file__).resolve().parent.parent
 COPY = ROOT / "target" / "planted"
 # The programs and tests that may catch what the prover lets through.
-RUNS = ("play", "cases", "limits")
+RUNS = ("lint", "explain", "play", "cases", "limits")
 
 
 @dataclass
@@ -29,6 +29,14 @@ class Bug:
     file: str
     old: str
     new: str
+
+    @property
+    def label(self):
+        return re.sub(r"\W+", "_", self.name)
+
+    @property
+    def edit(self):
+        return COPY / "crates" / self.crate / "must-fail" / f"{self.label}.edit"
 
 
 def read_bugs(path):
@@ -52,19 +60,38 @@ def check_places(bugs):
             sys.exit(f"[{bug.crate}] {bug.name}: the old text stands {count} times in {bug.file}")
 
 
-def copy_tree():
-    """A copy of the crates without their must-fail edits, and with what is proved already."""
+def copy_tree(bugs):
+    """A copy of the crates with the bugs in the place of their must-fail edits."""
     shutil.rmtree(COPY, ignore_errors=True)
     COPY.mkdir(parents=True)
-    shutil.copytree(ROOT / "crates", COPY / "crates", ignore=shutil.ignore_patterns("must-fail"))
+    shutil.copytree(ROOT / "crates", COPY / "crates", ignore=shutil.ignore_patterns("must-fail", "out"))
     shutil.copy(ROOT / "crates.txt", COPY)
-    for part in ("rlib", "inc", "stamp", "obj", "log"):
-        if (ROOT / "target" / part).exists():
-            shutil.copytree(ROOT / "target" / part, COPY / "target" / part)
+    for bug in bugs:
+        bug.edit.parent.mkdir(exist_ok=True)
+        bug.edit.write_text(f"file: {bug.file}\nold: {bug.old}\nnew: {bug.new}\n")
 
 
-def rt(*words):
-    return subprocess.run(["rt", *words], cwd=COPY, capture_output=True, text=True, errors="replace")
+def rt(folder, *words):
+    return subprocess.run(["rt", *words], cwd=folder, stdin=subprocess.DEVNULL, capture_output=True, text=True, errors="replace")
+
+
+def prover_verdicts(bugs):
+    """What 'rt must-fail' says of each bug, by crate and label."""
+    said = {}
+    for crate in dict.fromkeys(bug.crate for bug in bugs):
+        output = rt(COPY, "must-fail", crate)
+        for line in (output.stdout + output.stderr).splitlines():
+            found = re.match(r"rt: must-fail (\w+)/(\S+)\.edit: (.*)", line)
+            if found:
+                said[found[1], found[2]] = found[3]
+        for bug in (b for b in bugs if b.crate == crate):
+            bug.edit.unlink()
+    return said
+
+
+def is_unfit(message):
+    """An answer that names a step or a field which the edited code has not says nothing about a promise."""
+    return "that can be named from here" in message or "has no field" in message or message.startswith("BAD EDIT")
 
 
 @contextmanager
@@ -78,37 +105,26 @@ def planted(bug):
         path.write_text(whole)
 
 
-def first_error(crate, output):
-    """The first thing that the prover says against the crate: where, and what."""
-    lines = output.replace(f"{COPY}/crates/{crate}/", "").splitlines()
-    for line, after in zip(lines, lines[1:] + [""]):
-        found = re.match(r"(?:note: )?((?:src|proofs)/\S+?:\d+):\d+: (?:error(?:\[\S+\])?: )?(.*)", line)
-        if found and "large solution" not in line:
-            more = " " + after.strip() if after.startswith("  ") else ""
-            return found[1], found[2] + more
-    return "", output.strip().splitlines()[-1]
-
-
-def is_unfit(message):
-    """An answer that names a step or a field which the edited code has not says nothing about a promise."""
-    return "that can be named from here" in message or re.search(r"record `.*has no field", message) is not None
-
-
-def judge(bug):
+def run_verdict(bug):
     with planted(bug):
-        proved = rt("dev", bug.crate)
-        if proved.returncode:
-            where, what = first_error(bug.crate, proved.stdout + proved.stderr)
-            return ("unfit" if is_unfit(what) else "proof"), where, what
-        names = [bug.crate] + [n for n in RUNS if (COPY / "crates" / n).exists() and n != bug.crate]
-        ran = rt("check", *names)
+        ran = rt(COPY, "ci", *dict.fromkeys((bug.crate, *RUNS)))
         if ran.returncode:
             failed = re.search(r"rt: FAILED: (.*)", ran.stdout + ran.stderr)
-            return "run", failed[1] if failed else "", ""
-        compared = subprocess.run([ROOT / "reference" / "compare.sh", COPY / "target" / "bin" / "play", "2000"], capture_output=True)
+            return "run", failed[1] if failed else ""
+        rt(COPY / "crates" / "play", "run")
+        program = COPY / "crates" / "play" / "out" / "play"
+        compared = subprocess.run([ROOT / "reference" / "compare.sh", program, "2000"], capture_output=True)
         if compared.returncode:
-            return "run", "reference/compare.sh", ""
-    return "SURVIVES", "", ""
+            return "run", "reference/compare.sh"
+    return "SURVIVES", ""
+
+
+def judge(bug, said):
+    if not said.startswith("NOT REFUSED"):
+        what = said.removeprefix("refused, as it must be: ")
+        place = re.search(r"((?:src|proofs)/[^:\s]+:\d+)", what)
+        return ("unfit" if is_unfit(what) or not said.startswith("refused") else "proof"), place[1] if place else ""
+    return run_verdict(bug)
 
 
 def main():
@@ -116,15 +132,17 @@ def main():
     if sys.argv[1:]:
         bugs = [bug for bug in bugs if any(word == bug.crate or word in bug.name for word in sys.argv[1:])]
     check_places(bugs)
-    copy_tree()
+    copy_tree(bugs)
+    said = prover_verdicts(bugs)
     counts = {"proof": 0, "unfit": 0, "run": 0, "SURVIVES": 0}
     print("| crate | bug | caught by | first at |\n| --- | --- | --- | --- |")
     with open(COPY / "messages", "w") as messages:
         for bug in bugs:
-            how, where, what = judge(bug)
+            words = said.get((bug.crate, bug.label), "BAD EDIT: rt said nothing of it")
+            how, where = judge(bug, words)
             counts[how] += 1
             print(f"| {bug.crate} | {bug.name} | {how} | {where} |", flush=True)
-            print(f"[{bug.crate}] {bug.name}: {how} at {where}: {what[:1000]}", file=messages, flush=True)
+            print(f"[{bug.crate}] {bug.name}: {how} at {where}: {words[:1000]}", file=messages, flush=True)
     print(f"\n{len(bugs)} bugs planted: {counts['proof']} refused by the prover because a fact no longer holds, {counts['unfit']} refused because a proof no longer fits the code, {counts['run']} caught by a run, {counts['SURVIVES']} survive")
     sys.exit(1 if counts["SURVIVES"] or counts["unfit"] else 0)
 
