@@ -1,7 +1,7 @@
 // What a commit finds.
 ghost use Rattle.std.specs.Prelude.{◌≡◌, ℕ, ◌+◌, ◌*◌, ◌<◌, ◌≤◌, ltb, length, nat_lt};
 ghost use Rattle.history.specs.State.{State, Transaction as Running};
-ghost use Rattle.history.specs.Steps.{missed, missed_of, lowest, overtaken, findings, least as least-of, starts};
+ghost use Rattle.history.specs.Steps.{missed, missed_of, lowest, overtaken, findings, least as least_of, starts};
 ghost use Rattle.versions.specs.Plans.{Tells};
 ghost use Rattle.board.specs.Holding.{setup_of, Runs, Holds};
 ghost use Rattle.board.specs.Lists.{starts_in};
@@ -96,7 +96,7 @@ impl<K: Kind, R: Rule> Board<'_, K, R> {
 
     // The least start of an open transaction, the given one counted.
     pub(crate) fn least_start(&self, start: u32) -> u32
-        ensures { (s : State) → Holds K.Kind.state K.Kind.coded K.Kind.rest K.Kind.count R.Rule.answers self.now s → result ≡ least-of start (starts (setup_of K.Kind.coded K.Kind.rest K.Kind.count R.Rule.answers self.now) s) }
+        ensures { (s : State) → Holds K.Kind.state K.Kind.coded K.Kind.rest K.Kind.count R.Rule.answers self.now s → result ≡ least_of start (starts (setup_of K.Kind.coded K.Kind.rest K.Kind.count R.Rule.answers self.now) s) }
     {
         let mut least = start;
         for at in 0..self.seat_count.min(32) {
@@ -108,7 +108,7 @@ impl<K: Kind, R: Rule> Board<'_, K, R> {
 
 // The lesser of a number and the start of a seat's open transaction, if it has one.
 fn least_with(seat: &Seat, least: u32) -> u32
-    ensures { result ≡ least-of least (starts_in seat.now) }
+    ensures { result ≡ least_of least (starts_in seat.now) }
 {
     match seat {
         Seat::Held {

@@ -7,7 +7,7 @@ use Rattle.calls.specs.declared.call.Mode.TheVariants.{Reader, Update}
 use Rattle.calls.specs.declared.call.Call.TheVariants.{Admit, Revoke, Begin, Read, Write as Writing, Abandon, Show}
 use Rattle.calls.specs.declared.reply.Reply.TheVariants.{Done, Start, Code}
 use Rattle.history.specs.State.{Setup, Version, Transaction, Seat, empty, held, State, put}
-use Rattle.history.specs.Steps.{asked, accept, set_running, runs as seat-runs, admit, revoke, begin, show, newest, natural_by, place_by, read_in, read_by_natural, listed, list_code, running_of, admit_questions, revoke_questions, pass_questions, begin_questions, item_questions, write_questions}
+use Rattle.history.specs.Steps.{asked, accept, set_running, runs as seat_runs, admit, revoke, begin, show, newest, natural_by, place_by, read_in, read_by_natural, listed, list_code, running_of, admit_questions, revoke_questions, pass_questions, begin_questions, item_questions, write_questions}
 use Rattle.history.specs.Log.{Log}
 use Rattle.history.specs.Promise.{◌∈◌}
 use Rattle.history.proofs.Invariant.{Inv, board_has}
@@ -86,7 +86,7 @@ module _ {b : Setup} {s : State} {l : Log} {m : Machine} (inv : Inv b s l) (both
     reached = reach seat x (ap running_of on_board)
 
     -- the seat's transaction is now y, or none
-    pub becomes : (y : Option Transaction) (t : Option Tx) → Paired b (lists_of m) y t → Paired b (lists_of m) (running_of (seat-runs y (s.seats seat))) t
+    pub becomes : (y : Option Transaction) (t : Option Tx) → Paired b (lists_of m) y t → Paired b (lists_of m) (running_of (seat_runs y (s.seats seat))) t
     becomes y t p = runs_there b (lists_of m) (s.seats seat) pass class (Some x) y t on_board p
 
     ---- a read

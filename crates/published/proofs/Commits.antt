@@ -10,7 +10,7 @@ use Rattle.calls.specs.declared.refusal.Refusal.TheVariants.{RuleRefuses, Versio
 use Rattle.rules.specs.Laws.{FourLaws}
 use Rattle.rules.specs.WarpAnswers.{warp_answers}
 use Rattle.history.specs.State.{Setup, Version, Transaction, held, State, put}
-use Rattle.history.specs.Steps.{Outcome as BoardOutcome, runs as seat-runs, commit_in, settle, raised, raise_and_drop, store, stored, lowest, is_full, limit, findings, listed, running_of, cut_down, least_start}
+use Rattle.history.specs.Steps.{Outcome as BoardOutcome, runs as seat_runs, commit_in, settle, raised, raise_and_drop, store, stored, lowest, is_full, limit, findings, listed, running_of, cut_down, least_start}
 use Rattle.history.specs.Log.{Log}
 use Rattle.history.specs.Promise.{◌∈◌}
 use Rattle.history.proofs.Invariant.{Inv, board_has}
@@ -27,8 +27,8 @@ module _ {b : Setup} {s : State} {l : Log} {m : Machine} (inv : Inv b s l) (both
     (seat pass : ℕ) (class : Class) (x : Transaction) (on_board : s.seats seat ≡ held pass class (Some x)) (tx : Tx) (in_machine : m.running seat ≡ Some tx) (good : Good b (lists_of m) x tx) where
   -- the transaction ends, on both sides
   leaves : (lists : ℕ → List Ver) → ((k : ℕ) → Paired b lists (running_of (s.seats k)) (m.running k))
-      → (k : ℕ) → Paired b lists (running_of (put s.seats seat (seat-runs None (s.seats seat)) k)) (put m.running seat None k)
-  leaves lists all = paired_put b lists s.seats m.running seat (seat-runs None (s.seats seat)) None all (runs_there b lists (s.seats seat) pass class (Some x) None None on_board tt)
+      → (k : ℕ) → Paired b lists (running_of (put s.seats seat (seat_runs None (s.seats seat)) k)) (put m.running seat None k)
+  leaves lists all = paired_put b lists s.seats m.running seat (seat_runs None (s.seats seat)) None all (runs_there b lists (s.seats seat) pass class (Some x) None None on_board tt)
 
   ---- the visible reads
 

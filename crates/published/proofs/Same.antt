@@ -5,7 +5,7 @@ use Rattle.calls.specs.declared.call.Class.{Class}
 use Rattle.calls.specs.declared.call.Mode.TheVariants.{Update}
 use Rattle.calls.specs.declared.call.Call.{Call}
 use Rattle.history.specs.State.{Setup, Transaction, Seat, held, State, put}
-use Rattle.history.specs.Steps.{Outcome as BoardOutcome, running_of, runs as seat-runs, listed}
+use Rattle.history.specs.Steps.{Outcome as BoardOutcome, running_of, runs as seat_runs, listed}
 use Rattle.published.specs.Algorithm.{Ver, Tx, Machine, Outcome, in_tx, nothing_found, handle_read}
 use Rattle.published.specs.Beside.{turn, after_turn, SameAnswer, SameTransaction, FrontPart}
 
@@ -66,5 +66,5 @@ module _ (b : Setup) where
 
     -- of a seat that is held
     pub runs_there : (y : Seat) (pass : ℕ) (class : Class) (old new : Option Transaction) (t : Option Tx)
-        → y ≡ held pass class old → Paired b lists new t → Paired b lists (running_of (seat-runs new y)) t
-    runs_there y pass class old new t e p = subst (λ z. Paired b lists (running_of (seat-runs new z)) t) (sym e) p
+        → y ≡ held pass class old → Paired b lists new t → Paired b lists (running_of (seat_runs new y)) t
+    runs_there y pass class old new t e p = subst (λ z. Paired b lists (running_of (seat_runs new z)) t) (sym e) p

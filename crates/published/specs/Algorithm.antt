@@ -31,7 +31,7 @@ pub record Tx : Type 0 where
   pub start : ℕ
   pub read_set : ℕ → Bool
   pub write_set : ℕ → Option ℕ
-  -- the published read would have aborted it by now: see early-abort
+  -- the published read would have aborted it by now: see early_abort
   pub spared : Bool
 
 -- a thread runs one transaction at a time
