@@ -9,7 +9,7 @@ pub trait Kind: Copy {
     // The state of an item that nobody has changed yet.
     const REST: Self;
 
-    // A ghost member stands beside each constant, for clauses to cite.
+    // A clause cannot cite a constant, so a ghost member stands beside each.
     ghost count: { ℕ };
 
     ghost rest: { Self };

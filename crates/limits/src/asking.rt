@@ -7,7 +7,7 @@ use std::process::Abort;
 
 // What the board of these tests answers.
 #[derive(Clone, Copy, Debug, PartialEq, Eq)]
-pub enum Told {
+pub(crate) enum Told {
     // The first and the second number of the answer line.
     Accepted(u32, u32),
     // The number of the refusal.
@@ -15,7 +15,7 @@ pub enum Told {
 }
 
 // Accepted, with nothing to tell.
-pub const DONE: Told = Told::Accepted(0, 0);
+pub(crate) const DONE: Told = Told::Accepted(0, 0);
 
 fn ask(board: &mut Board<'_, Turnout, Warp>, call: Call) -> Told {
     match board.call(call) {
@@ -25,13 +25,17 @@ fn ask(board: &mut Board<'_, Turnout, Warp>, call: Call) -> Told {
 }
 
 // Makes calls one after the other; each must be answered as it says.
-pub fn check_calls(rt: &impl Abort, board: &mut Board<'_, Turnout, Warp>, steps: &[(Call, Told)]) {
+pub(crate) fn check_calls(
+    rt: &impl Abort,
+    board: &mut Board<'_, Turnout, Warp>,
+    steps: &[(Call, Told)],
+) {
     for (i, (call, told)) in steps.iter().enumerate() {
         assert_eq!(rt; ask(board, *call), *told, "call {i}: {call:?}");
     }
 }
 
-pub fn admit(seat: u32) -> Call {
+pub(crate) fn admit(seat: u32) -> Call {
     Call::Admit {
         seat,
         class: Class::Member,
@@ -40,17 +44,17 @@ pub fn admit(seat: u32) -> Call {
 
 // Somebody at a seat, with the pass that they show.
 #[derive(Clone, Copy)]
-pub struct Operator {
-    pub seat: u32,
-    pub pass: u32,
+pub(crate) struct Operator {
+    pub(crate) seat: u32,
+    pub(crate) pass: u32,
 }
 
 impl Operator {
-    pub fn update(self) -> Call {
+    pub(crate) fn update(self) -> Call {
         self.begin(Mode::Update)
     }
 
-    pub fn reader(self) -> Call {
+    pub(crate) fn reader(self) -> Call {
         self.begin(Mode::Reader)
     }
 
@@ -62,7 +66,7 @@ impl Operator {
         }
     }
 
-    pub fn read(self, item: u32) -> Call {
+    pub(crate) fn read(self, item: u32) -> Call {
         Call::Read {
             seat: self.seat,
             pass: self.pass,
@@ -70,7 +74,7 @@ impl Operator {
         }
     }
 
-    pub fn write(self, item: u32, code: u32) -> Call {
+    pub(crate) fn write(self, item: u32, code: u32) -> Call {
         Call::Write {
             seat: self.seat,
             pass: self.pass,
@@ -79,7 +83,7 @@ impl Operator {
         }
     }
 
-    pub fn commit(self) -> Call {
+    pub(crate) fn commit(self) -> Call {
         Call::Commit {
             seat: self.seat,
             pass: self.pass,

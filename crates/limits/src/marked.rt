@@ -14,7 +14,7 @@ fn mark(slot: u32) -> Version<Turnout> {
     }
 }
 
-pub fn marked(heap: Global, slots: u32) -> Result<Vec<Version<Turnout>>, AllocError> {
+pub(crate) fn marked(heap: Global, slots: u32) -> Result<Vec<Version<Turnout>>, AllocError> {
     let mut memory = Vec::new(heap);
     for slot in 0..slots {
         memory.push(mark(slot))?;
@@ -23,12 +23,12 @@ pub fn marked(heap: Global, slots: u32) -> Result<Vec<Version<Turnout>>, AllocEr
 }
 
 // The code, the natural number and the place of a version.
-pub fn parts(version: &Version<Turnout>) -> (u32, u32, u32) {
+pub(crate) fn parts(version: &Version<Turnout>) -> (u32, u32, u32) {
     (version.state.code(), version.natural, version.place)
 }
 
 // That all slots from this one on are as `marked` made them.
-pub fn check_marked(rt: &impl Abort, memory: &[Version<Turnout>], from: usize) {
+pub(crate) fn check_marked(rt: &impl Abort, memory: &[Version<Turnout>], from: usize) {
     let mut slot = 0u32;
     for (i, version) in memory.iter().enumerate() {
         if i >= from {

@@ -1,12 +1,11 @@
 // The answers to a script's lines.
-ghost use Rattle.std.specs.Prelude.{◌≡◌, true, ◌++◌, is_ok, IfOk, if◌then◌else◌};
-ghost use Rattle.script.specs.Answers.{answer};
+ghost use Rattle.std.specs.Prelude.{◌≡◌, true, ◌++◌, is_ok, IfOk};
 ghost use Rattle.script.specs.Lines.{to_come};
 ghost use Rattle.script.specs.Reading.{command_of};
 ghost use Rattle.lint.specs.Answers.{verdict, answers_from, lint_of};
 
 use calls::{Fault, Reply};
-use script::{Lines, next_line_number, read_command, read_header, script_fits, write_answer};
+use script::{Lines, next_line_number, push_answer, read_command, read_header, script_fits};
 use std::alloc::{AllocError, Global};
 
 // What is said of a command's line.
@@ -15,19 +14,6 @@ fn verdict(line: &[u8]) -> Result<Reply, Fault>
 {
     read_command(line)?;
     Ok(Reply::Done)
-}
-
-// Adds an answer's line.
-fn push_answer(
-    answers: &mut Vec<u8>,
-    line: u32,
-    outcome: &Result<Reply, Fault>,
-) -> Result<(), AllocError>
-    ensures { answers.new.items ≡ (if is_ok result then answers.old.items ++ answer line outcome.now else answers.old.items) }
-{
-    let mut out = [0; 32];
-    let len = write_answer(&mut out, line, outcome);
-    answers.extend_from_slice(&out[0..len])
 }
 
 // Adds the answers to a script's commands, which are all its lines but the first.

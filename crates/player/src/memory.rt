@@ -1,5 +1,6 @@
 // Version memory for boards of any size.
-ghost use Rattle.std.specs.Prelude.{◌≡◌, IfOk, vec_len};
+ghost use Rattle.std.specs.Prelude.{◌≡◌, replicate, IfOk, vec_len};
+ghost use Rattle.versions.specs.Slots.{rest_version};
 ghost use Rattle.player.specs.Scripts.{slots_lent};
 
 use board::DEPTH;
@@ -10,9 +11,10 @@ use versions::Version;
 // The slots of the largest board.
 pub const SLOTS: usize = 256 * DEPTH;
 
-// As many slots as the largest board needs.
+// As many slots as the largest board needs, all at rest.
 pub fn slots<K: Kind>(heap: Global) -> Result<Vec<Version<K>>, AllocError>
-    ensures { IfOk result (λ v. vec_len v ≡ slots_lent) }
+    ensures long { IfOk result (λ v. vec_len v ≡ slots_lent) }
+    ensures resting { IfOk result (λ v. v.items ≡ replicate slots_lent (rest_version K.Kind.rest)) }
 {
     let mut slots = Vec::new(heap);
     while slots.len() < SLOTS {

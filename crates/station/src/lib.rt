@@ -6,6 +6,8 @@ mod request;
 mod run;
 mod setup;
 mod sizes;
+#[cfg(test)]
+mod tests;
 
 pub use answer::Answer;
 pub use request::Request;
