@@ -90,8 +90,8 @@ def prover_verdicts(bugs):
 
 
 def is_unfit(message):
-    """An answer that names a step or a field which the edited code has not says nothing about a promise."""
-    return "that can be named from here" in message or "has no field" in message or message.startswith("BAD EDIT")
+    """An answer that names a step which the edited code has not says nothing about a promise, and rt says so."""
+    return "only because a proof file names" in message or not message.startswith("refused")
 
 
 @contextmanager
@@ -121,9 +121,8 @@ def run_verdict(bug):
 
 def judge(bug, said):
     if not said.startswith("NOT REFUSED"):
-        what = said.removeprefix("refused, as it must be: ")
-        place = re.search(r"((?:src|proofs)/[^:\s]+:\d+)", what)
-        return ("unfit" if is_unfit(what) or not said.startswith("refused") else "proof"), place[1] if place else ""
+        place = re.search(r"((?:src|proofs)/[^:\s]+:\d+)", said)
+        return ("unfit" if is_unfit(said) else "proof"), place[1] if place else ""
     return run_verdict(bug)
 
 
