@@ -15,7 +15,7 @@ pub enum Mode {
 }
 
 // The eight calls. Any number may stand in any place: the board refuses what it cannot do.
-#[derive(Clone, Copy, Debug)]
+#[derive(Clone, Copy, Debug, PartialEq, Eq)]
 pub enum Call {
     // Gives an empty seat to somebody, under a new pass.
     Admit {

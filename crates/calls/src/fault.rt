@@ -1,10 +1,11 @@
 // What is wrong with a line of a script: the line itself, or the call that it stands for.
 ghost use Rattle.std.specs.Prelude.{◌≡◌};
 ghost use Rattle.calls.specs.Numbers.{fault_number, fault_named};
+ghost use Rattle.calls.specs.declared.fault.Fault.TheVariants.{Refused};
 
 use crate::refusal::Refusal;
 
-#[derive(Clone, Copy, Debug)]
+#[derive(Clone, Copy, Debug, PartialEq, Eq)]
 pub enum Fault {
     // 16: the line has more than 96 bytes, or the script more than 32,768.
     TooLong,
@@ -35,9 +36,16 @@ impl Fault {
     {
         match self {
             Fault::TooLong => 0,
-            Fault::WrongPart { at } => *at,
-            Fault::BadNumber { at } => *at,
+            Fault::WrongPart { at } | Fault::BadNumber { at } => *at,
             Fault::Refused(refusal) => refusal.named(),
         }
+    }
+}
+
+impl From<Refusal> for Fault {
+    ghost from_gives = { λ why fault. fault ≡ Refused why };
+
+    fn from(why: Refusal) -> Fault {
+        Fault::Refused(why)
     }
 }

@@ -19,7 +19,7 @@ pub enum RuleName {
 }
 
 // Any number may stand for a count: the board's setup refuses what is out of range.
-#[derive(Clone, Copy, Debug)]
+#[derive(Clone, Copy, Debug, PartialEq, Eq)]
 pub struct Header {
     pub board: BoardKind,
     pub items: u32,

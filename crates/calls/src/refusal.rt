@@ -3,7 +3,7 @@ ghost use Rattle.std.specs.Prelude.{◌≡◌};
 ghost use Rattle.calls.specs.Numbers.{number, named};
 
 // In the order of the questions that a board asks. The first "no" decides.
-#[derive(Clone, Copy, Debug)]
+#[derive(Clone, Copy, Debug, PartialEq, Eq)]
 pub enum Refusal {
     // 1: a count of items or seats is out of range, or the lent memory is too short.
     BadSetup,
@@ -66,8 +66,7 @@ impl Refusal {
         ensures { result ≡ named self.now }
     {
         match *self {
-            Refusal::RuleRefuses { item } => item,
-            Refusal::VersionsFull { item } => item,
+            Refusal::RuleRefuses { item } | Refusal::VersionsFull { item } => item,
             _ => 0,
         }
     }
