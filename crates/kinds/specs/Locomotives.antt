@@ -1,15 +1,13 @@
 -- The states of a locomotive and their codes.
-use Rattle.std.specs.Prelude.{ℕ, ◌+◌, ◌-◌, ◌*◌, ◌/◌, ◌%◌, ◌<◌, ◌≤◌, cond, ◌==◌, nat_lt}
+use Rattle.std.specs.Prelude.{ℕ, ◌+◌, ◌-◌, ◌*◌, ◌/◌, ◌%◌, ◌<◌, ◌≤◌, cond, ◌==◌, nat_lt, Option, None, Some}
 use Rattle.kinds.specs.declared.locomotive.Direction.{Direction}
 use Rattle.kinds.specs.declared.locomotive.Direction.TheVariants.{Forward, Backward}
-use Rattle.kinds.specs.declared.locomotive.Holder.{Holder}
-use Rattle.kinds.specs.declared.locomotive.Holder.TheVariants.{Nobody, Seat}
 use Rattle.kinds.specs.declared.locomotive.Locomotive.{Locomotive}
 
 -- nobody, or one of 32 seats
-abbrev pub IsHolder : Holder → Type 0
-IsHolder Nobody = Unit {0}
-IsHolder (Seat seat) = seat < 32
+abbrev pub IsHolder : Option ℕ → Type 0
+IsHolder None = Unit {0}
+IsHolder (Some seat) = seat < 32
 
 pub record IsLocomotive (l : Locomotive) : Type 0 where
   pub speed_in_range : l.speed ≤ 126
@@ -23,18 +21,18 @@ abbrev pub direction_of : ℕ → Direction
 direction_of n = cond (n == 0) Forward Backward
 
 -- 0 for nobody, else the seat and one
-abbrev pub holder_number : Holder → ℕ
-holder_number Nobody = 0
-holder_number (Seat seat) = seat + 1
+abbrev pub holder_number : Option ℕ → ℕ
+holder_number None = 0
+holder_number (Some seat) = seat + 1
 
-abbrev pub holder_of : ℕ → Holder
-holder_of n = cond (n == 0) Nobody (Seat (n - 1))
+abbrev pub holder_of : ℕ → Option ℕ
+holder_of n = cond (n == 0) None (Some (n - 1))
 
 abbrev pub locomotive_code : Locomotive → ℕ
 locomotive_code l = (holder_number l.holder * 2 + direction_number l.direction) * 127 + l.speed
 
 abbrev pub resting : Locomotive
-resting = record { speed = 0; direction = Forward; holder = Nobody }
+resting = record { speed = 0; direction = Forward; holder = None }
 
 -- a code that is not below the count says nothing
 abbrev pub locomotive_of : ℕ → Locomotive

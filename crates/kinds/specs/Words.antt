@@ -1,9 +1,7 @@
 -- How a state is told to people.
-use Rattle.std.specs.Prelude.{ℕ, List, ◌++◌, codes, decimal}
+use Rattle.std.specs.Prelude.{ℕ, List, ◌++◌, codes, decimal, Option, None, Some}
 use Rattle.kinds.specs.declared.locomotive.Direction.{Direction}
 use Rattle.kinds.specs.declared.locomotive.Direction.TheVariants.{Forward, Backward}
-use Rattle.kinds.specs.declared.locomotive.Holder.{Holder}
-use Rattle.kinds.specs.declared.locomotive.Holder.TheVariants.{Nobody, Seat}
 use Rattle.kinds.specs.declared.locomotive.Locomotive.{Locomotive}
 use Rattle.kinds.specs.declared.turnout.Turnout.{Turnout}
 use Rattle.kinds.specs.declared.turnout.Turnout.TheVariants.{Unknown, Straight, Diverging, Locked}
@@ -18,9 +16,9 @@ abbrev pub direction_words : Direction → List ℕ
 direction_words Forward = codes "forward"
 direction_words Backward = codes "backward"
 
-abbrev pub holder_words : Holder → List ℕ
-holder_words Nobody = codes "nobody"
-holder_words (Seat seat) = codes "seat " ++ decimal seat
+abbrev pub holder_words : Option ℕ → List ℕ
+holder_words None = codes "nobody"
+holder_words (Some seat) = codes "seat " ++ decimal seat
 
 abbrev pub locomotive_words : Locomotive → List ℕ
 locomotive_words l =

@@ -9,10 +9,10 @@ pub trait Kind: Copy {
     // The state of an item that nobody has changed yet.
     const REST: Self;
 
-    // A clause cannot cite a constant, so a ghost member stands beside each.
-    ghost count: { ℕ };
+    // The same two constants, for clauses.
+    ghost COUNT: { ℕ };
 
-    ghost rest: { Self };
+    ghost REST: { Self };
 
     // Which values of the type are states.
     ghost state: { Self → Type 0 };
@@ -22,14 +22,6 @@ pub trait Kind: Copy {
 
     ghost decoded: { ℕ → Self };
 
-    // `COUNT`, as a number that a clause can cite.
-    fn code_count() -> u32
-        ensures { result ≡ count };
-
-    // `REST`, as a state that a clause can cite.
-    fn at_rest() -> Self
-        ensures { result ≡ rest };
-
     fn code(self) -> u32
         ensures { result ≡ coded self };
 
@@ -38,20 +30,21 @@ pub trait Kind: Copy {
 
     ghost code_gives_state_back: { (s : Self) → state s → decoded (coded s) ≡ s };
 
-    ghost state_gives_code_back: { (n : ℕ) → n < count → coded (decoded n) ≡ n };
+    ghost state_gives_code_back: { (n : ℕ) → n < COUNT → coded (decoded n) ≡ n };
 
-    ghost code_is_below_count: { (s : Self) → state s → coded s < count };
+    ghost code_is_below_count: { (s : Self) → state s → coded s < COUNT };
 
-    ghost code_below_count_gives_state: { (n : ℕ) → n < count → state (decoded n) };
+    ghost code_below_count_gives_state: { (n : ℕ) → n < COUNT → state (decoded n) };
 
-    ghost rest_is_state: { state rest };
+    ghost rest_is_state: { state REST };
 
-    ghost two_codes_at_least: { 2 ≤ count };
+    ghost two_codes_at_least: { 2 ≤ COUNT };
 
-    ghost count_fits: { count < 2 ^ 32 };
+    ghost count_fits: { COUNT < 2 ^ 32 };
 }
 
-// Every kind is lawful: the trait's laws as one fact.
+// Every kind is lawful: the trait's laws as one fact. Each kind's theorem stands beside it in a function of its own, since a contract is where
+// a theorem is stated.
 pub fn kind_is_lawful<K: Kind>()
-    ensures { LawfulKind K.Kind.state K.Kind.coded K.Kind.decoded K.Kind.count K.Kind.rest }
+    ensures { LawfulKind K.state K.coded K.decoded K.COUNT K.REST }
 {}

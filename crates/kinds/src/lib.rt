@@ -8,5 +8,5 @@ mod tests;
 mod turnout;
 
 pub use kind::{Kind, kind_is_lawful};
-pub use locomotive::{Direction, Holder, Locomotive, locomotives_are_lawful};
+pub use locomotive::{Direction, Locomotive, locomotives_are_lawful};
 pub use turnout::{Turnout, turnouts_are_lawful};

@@ -2,7 +2,7 @@
 ghost use Rattle.std.specs.Prelude.{◌≡◌, Some};
 ghost use Rattle.kinds.specs.Lawful.{LawfulKind};
 ghost use Rattle.kinds.specs.Locomotives.{IsLocomotive, locomotive_code, locomotive_of, resting};
-ghost use Rattle.kinds.specs.Words.{direction_words, holder_words, locomotive_words};
+ghost use Rattle.kinds.specs.Words.{direction_words, locomotive_words};
 ghost use Rattle.std.proofs.Common.{rules};
 
 use crate::kind::{Kind, kind_is_lawful};
@@ -15,18 +15,12 @@ pub enum Direction {
 }
 
 #[derive(Clone, Copy, Debug, PartialEq, Eq)]
-pub enum Holder {
-    Nobody,
-    // 0 to 31.
-    Seat(u8),
-}
-
-#[derive(Clone, Copy, Debug, PartialEq, Eq)]
 pub struct Locomotive {
     // 0 to 126.
     pub speed: u8,
     pub direction: Direction,
-    pub holder: Holder,
+    // The seat that holds it, 0 to 31, if one does.
+    pub holder: Option<u8>,
 }
 
 const SPEEDS: u32 = 127;
@@ -42,12 +36,12 @@ impl Kind for Locomotive {
     const REST: Self = Locomotive {
         speed: 0,
         direction: Direction::Forward,
-        holder: Holder::Nobody,
+        holder: None,
     };
 
-    ghost count = { 8382 };
+    ghost COUNT = { 8382 };
 
-    ghost rest = { resting };
+    ghost REST = { resting };
 
     ghost state = { IsLocomotive };
 
@@ -69,25 +63,17 @@ impl Kind for Locomotive {
 
     ghost count_fits = { Prim.search rules };
 
-    fn code_count() -> u32 {
-        Self::COUNT
-    }
-
-    fn at_rest() -> Self {
-        Self::REST
-    }
-
     // The same sum at a value that is no state.
     fn code(self) -> u32 {
         let holder = match self.holder {
-            Holder::Nobody => 0,
-            Holder::Seat(seat) => seat as u32 + 1,
+            None => 0,
+            Some(seat) => u32::from(seat) + 1,
         };
         let direction = match self.direction {
             Direction::Forward => 0,
             Direction::Backward => 1,
         };
-        (holder * DIRECTIONS + direction) * SPEEDS + self.speed as u32
+        (holder * DIRECTIONS + direction) * SPEEDS + u32::from(self.speed)
     }
 
     // The state at rest where the code is not below the count.
@@ -101,8 +87,8 @@ impl Kind for Locomotive {
             _ => Direction::Backward,
         };
         let holder = match rest / DIRECTIONS {
-            0 => Holder::Nobody,
-            above => Holder::Seat((above - 1) as u8),
+            0 => None,
+            above => Some((above - 1) as u8),
         };
         Locomotive {
             speed: (code % SPEEDS) as u8,
@@ -129,17 +115,6 @@ impl fmt::Display for Direction {
     }
 }
 
-impl fmt::Display for Holder {
-    ghost output = { λ h. Some (holder_words h) };
-
-    fn fmt<W: fmt::Write>(&self, f: &mut fmt::Formatter<W>) -> fmt::Result {
-        match *self {
-            Holder::Nobody => f.write_str("nobody"),
-            Holder::Seat(seat) => write!(f, "seat {seat}"),
-        }
-    }
-}
-
 impl fmt::Display for Locomotive {
     ghost output = { λ l. Some (locomotive_words l) };
 
@@ -149,6 +124,10 @@ impl fmt::Display for Locomotive {
             direction,
             holder,
         } = *self;
-        write!(f, "speed {speed} {direction}, held by {holder}")
+        write!(f, "speed {speed} {direction}, held by ")?;
+        match holder {
+            None => f.write_str("nobody"),
+            Some(seat) => write!(f, "seat {seat}"),
+        }
     }
 }

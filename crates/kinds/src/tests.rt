@@ -1,9 +1,9 @@
 use crate::kind::Kind;
-use crate::locomotive::{Direction, Holder, Locomotive};
+use crate::locomotive::{Direction, Locomotive};
 use crate::turnout::Turnout;
 use std::test::Fail;
 
-fn locomotive(speed: u8, direction: Direction, holder: Holder) -> Locomotive {
+fn locomotive(speed: u8, direction: Direction, holder: Option<u8>) -> Locomotive {
     Locomotive {
         speed,
         direction,
@@ -16,37 +16,37 @@ fn locomotives(rt: HostRuntime) -> Result<(), Fail> {
     let table = [
         (
             0,
-            locomotive(0, Direction::Forward, Holder::Nobody),
+            locomotive(0, Direction::Forward, None),
             "speed 0 forward, held by nobody",
         ),
         (
             126,
-            locomotive(126, Direction::Forward, Holder::Nobody),
+            locomotive(126, Direction::Forward, None),
             "speed 126 forward, held by nobody",
         ),
         (
             127,
-            locomotive(0, Direction::Backward, Holder::Nobody),
+            locomotive(0, Direction::Backward, None),
             "speed 0 backward, held by nobody",
         ),
         (
             253,
-            locomotive(126, Direction::Backward, Holder::Nobody),
+            locomotive(126, Direction::Backward, None),
             "speed 126 backward, held by nobody",
         ),
         (
             254,
-            locomotive(0, Direction::Forward, Holder::Seat(0)),
+            locomotive(0, Direction::Forward, Some(0)),
             "speed 0 forward, held by seat 0",
         ),
         (
             1056,
-            locomotive(40, Direction::Forward, Holder::Seat(3)),
+            locomotive(40, Direction::Forward, Some(3)),
             "speed 40 forward, held by seat 3",
         ),
         (
             8381,
-            locomotive(126, Direction::Backward, Holder::Seat(31)),
+            locomotive(126, Direction::Backward, Some(31)),
             "speed 126 backward, held by seat 31",
         ),
     ];

@@ -23,9 +23,9 @@ impl Kind for Turnout {
 
     const REST: Self = Turnout::Unknown;
 
-    ghost count = { 35 };
+    ghost COUNT = { 35 };
 
-    ghost rest = { Unknown };
+    ghost REST = { Unknown };
 
     ghost state = { IsTurnout };
 
@@ -47,21 +47,13 @@ impl Kind for Turnout {
 
     ghost count_fits = { Prim.search rules };
 
-    fn code_count() -> u32 {
-        Self::COUNT
-    }
-
-    fn at_rest() -> Self {
-        Self::REST
-    }
-
     // The three positions, and then a lock for each seat.
     fn code(self) -> u32 {
         match self {
             Turnout::Unknown => 0,
             Turnout::Straight => 1,
             Turnout::Diverging => 2,
-            Turnout::Locked { seat } => 3 + seat as u32,
+            Turnout::Locked { seat } => 3 + u32::from(seat),
         }
     }
 
