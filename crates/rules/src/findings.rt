@@ -1,7 +1,8 @@
 // What a board finds of a transaction that asks to be granted.
 use calls::Class;
 
-#[derive(Clone, Copy, Debug)]
+// A rule's meaning is its answer to all findings, also to such as no board gives, so `warped` stands beside `missed` and not within it.
+#[derive(Clone, Copy, Debug, PartialEq, Eq)]
 pub struct Findings {
     // The transaction's start.
     pub start: u32,

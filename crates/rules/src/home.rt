@@ -10,13 +10,13 @@ use crate::findings::Findings;
 use crate::rule::{Rule, each_rule_keeps_the_four_laws};
 use calls::Class;
 
-#[derive(Clone, Copy, Debug)]
+#[derive(Clone, Copy, Debug, PartialEq, Eq)]
 pub struct Home<R> {
     pub below: R,
 }
 
 impl<R: Rule> Rule for Home<R> {
-    ghost answers = { λ home. home_answers (R.Rule.answers home.below) };
+    ghost answers = { λ home. home_answers (R.answers home.below) };
 
     ghost granted_place_is_above_start_up_to_next = { λ home. home_in_range _ (R.Rule.granted_place_is_above_start_up_to_next home.below) };
 
@@ -41,13 +41,13 @@ pub fn home_keeps_the_four_laws()
 {}
 
 pub fn home_over_any_rule_keeps_the_four_laws<R: Rule>()
-    ensures { (rule : R) → FourLaws (home_answers (R.Rule.answers rule)) }
+    ensures { (rule : R) → FourLaws (home_answers (R.answers rule)) }
 {
     each_rule_keeps_the_four_laws::<Home<R>>()
 }
 
 pub fn home_over_home_keeps_the_four_laws<R: Rule>()
-    ensures { (rule : R) → FourLaws (home_answers (home_answers (R.Rule.answers rule))) }
+    ensures { (rule : R) → FourLaws (home_answers (home_answers (R.answers rule))) }
 {
     each_rule_keeps_the_four_laws::<Home<Home<R>>>()
 }

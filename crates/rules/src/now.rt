@@ -7,7 +7,7 @@ ghost use Rattle.std.proofs.Common.{rules};
 use crate::findings::Findings;
 use crate::rule::{Rule, each_rule_keeps_the_four_laws};
 
-#[derive(Clone, Copy, Debug)]
+#[derive(Clone, Copy, Debug, PartialEq, Eq)]
 pub struct Now;
 
 impl Rule for Now {

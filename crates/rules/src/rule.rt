@@ -22,14 +22,15 @@ pub trait Rule {
     ghost nothing_missed_is_granted_next: { (rule : Self) → GrantsNextIfNoneMissed (answers rule) };
 }
 
-// The trait's laws as one fact, of every value.
+// The trait's laws as one fact, of every value. Each rule's theorem stands beside it in a function of its own, since a contract is where a
+// theorem is stated.
 pub fn each_rule_keeps_the_four_laws<R: Rule>()
-    ensures { (rule : R) → FourLaws (R.Rule.answers rule) }
+    ensures { (rule : R) → FourLaws (R.answers rule) }
 {}
 
 // The same of the rule at hand.
 pub fn rule_keeps_the_four_laws<R: Rule>(rule: &R)
-    ensures { FourLaws (R.Rule.answers rule.now) }
+    ensures { FourLaws (R.answers rule.now) }
 {
     each_rule_keeps_the_four_laws::<R>()
 }
