@@ -1,14 +1,13 @@
 -- Lemmas on cutting bytes at a byte.
-use Rattle.std.proofs.Common.{◌≡◌, ℕ, zero, suc, ◌+◌, ◌-◌, ◌<◌, ◌≤◌, Bool, true, false, cond, eqb, List, [], ◌∷◌, ◌++◌, length, get_or, take, drop, is_some, Some, None, Err, codes, Option, Result, sym, refl, ap, ◌∙◌, ⊎_elim, add-one, arith, Bor, MatchOption}
-use native.Mathlib.Nat.{sub-zero}
+use Rattle.std.proofs.Common.{◌≡◌, ℕ, zero, suc, ◌+◌, ◌-◌, ◌<◌, ◌≤◌, Bool, true, false, cond, eqb, List, [], ◌∷◌, ◌++◌, length, get_or, take, drop, is_some, Some, None, Err, codes, Option, sym, refl, ap, ◌∙◌, ⊎_elim, add-one, arith, Bor, MatchOption}
 use mir.Val.{bool_byte}
+use Rattle.std.specs.List.{AllWithin, HoldsAt}
 use Rattle.std.specs.Option.{option_map}
 use Rattle.std.proofs.lemmas.List.{take_rest, append_assoc, length-append}
-use Rattle.std.proofs.lemmas.Bool.{eq-eqb, ne_eqb, eqb-true, le-leb, cond_both, cond-true, cond-false, cases_Bool}
-use Rattle.calls.specs.declared.fault.Fault.{Fault}
+use Rattle.std.proofs.lemmas.Bool.{eq-eqb, ne_eqb, eqb-true, cond_both, cond-true, cond-false, cases_Bool}
 use Rattle.calls.specs.declared.fault.Fault.TheVariants.{WrongPart}
-use Rattle.script.specs.Reading.{end_at, of_line}
-use Rattle.script.specs.Parts.{until, after, past, onto, cut, parts, room, left, next, joined_by, value_in, value_at}
+use Rattle.script.specs.Reading.{end_at}
+use Rattle.script.specs.Parts.{Place, until, after, past, onto, cut, parts, room, left, next, joined_by, value_in, value_at}
 
 -- the first b of xs stands at i
 found : (b : ℕ) (xs : List ℕ) (i : ℕ) → i < length xs → ((k : ℕ) → k < i → get_or xs k 0 ≡ b → ⊥) → get_or xs i 0 ≡ b → (until b xs ≡ take i xs) × (after b xs ≡ Some (drop (suc i) xs))
@@ -19,17 +18,26 @@ found b (x ∷ xs) (suc i) h n e =
     rw (ne_eqb x b (n 0 (omega arith))) (ap (λ l. x ∷ l) r.0, r.1)
 
 -- the same, as the checker reads `&s[0..i]` and `&s[i + 1..]`
-pub cut_found : (b : ℕ) (xs : List ℕ) (i : ℕ) → i < length xs → ((k : ℕ) → k < i → get_or xs k 0 ≡ b → ⊥) → get_or xs i 0 ≡ b → (take (i - 0) xs ≡ until b xs) × (Some (take (length xs - (i + 1)) (drop (i + 1) xs)) ≡ after b xs)
+cut_found : (b : ℕ) (xs : List ℕ) (i : ℕ) → i < length xs → ((k : ℕ) → k < i → get_or xs k 0 ≡ b → ⊥) → get_or xs i 0 ≡ b → (take i xs ≡ until b xs) × (Some (take (length xs - (i + 1)) (drop (i + 1) xs)) ≡ after b xs)
 cut_found b xs i h n e =
     let r = found b xs i h n e in
-    (rw sub-zero (sym r.0), rw (take_rest xs (i + 1), add-one) (sym r.1))
+    (sym r.0, rw (take_rest xs (i + 1), add-one) (sym r.1))
 
 -- no byte of xs is b
-pub cut_none : (b : ℕ) (xs : List ℕ) → ((k : ℕ) → k < length xs → get_or xs k 0 ≡ b → ⊥) → (until b xs ≡ xs) × (after b xs ≡ None)
+cut_none : (b : ℕ) (xs : List ℕ) → ((k : ℕ) → k < length xs → get_or xs k 0 ≡ b → ⊥) → (until b xs ≡ xs) × (after b xs ≡ None)
 cut_none b [] n = (refl, refl)
 cut_none b (x ∷ xs) n =
     let r = cut_none b xs (λ k l. n (suc k) (omega arith)) in
     rw (ne_eqb x b (n 0 (omega arith))) (ap (λ l. x ∷ l) r.0, r.1)
+
+-- what is cut where `position` finds the first b, or finds none
+abbrev pub Cuts : ℕ → List ℕ → Option ℕ → Type 0
+Cuts b xs None = (until b xs ≡ xs) × (after b xs ≡ None)
+Cuts b xs (Some i) = (take i xs ≡ until b xs) × (Some (take (length xs - (i + 1)) (drop (i + 1) xs)) ≡ after b xs)
+
+pub cuts : (b : ℕ) (xs : List ℕ) (r : Option ℕ) → MatchOption r (AllWithin (λ x. x ≡ b → ⊥) xs 0 (length xs)) (λ i. (i < length xs) × HoldsAt (λ x. x ≡ b) xs i × AllWithin (λ x. x ≡ b → ⊥) xs 0 i) → Cuts b xs r
+cuts b xs None n = cut_none b xs (λ k l. n k 0 (omega arith) l)
+cuts b xs (Some i) f = cut_found b xs i f.0 (λ k l. f.2 k 0 (omega arith) l) (f.1 0)
 
 -- what stands after a front, by cases on whether the front stands there
 pub past_front : (p s : List ℕ) → past p (p ++ s) ≡ Some s
@@ -83,6 +91,10 @@ length_cut b (c ∷ cs) =
 after_first : (at : ℕ) (part : List ℕ) (b : ℕ) (cs : List ℕ) → next at (part ∷ cut b cs) ≡ at + length part + 1
 after_first at part b cs = rw (cut_first b cs)
 
+-- a place is its byte and its parts
+pub place_is : {at byte : ℕ} {ps qs : List (List ℕ)} → at ≡ byte → ps ≡ qs → ◌≡◌ {A = Place} (record { at = at; parts = ps }) (record { at = byte; parts = qs })
+place_is e f = λ i. record { at = e i; parts = f i }
+
 -- a scanner passes over the first part of what is left, and over n spaces
 pub record Passed (at n : ℕ) (part : List ℕ) (was is : Option (Bor (List ℕ))) : Type 0 where
   pub parts_left : parts is ≡ left (parts was)
@@ -123,10 +135,6 @@ value_fits key rest text e =
 -- a part is left
 pub not_ended : (at : ℕ) (was : Option (Bor (List ℕ))) (x : Bor (List ℕ)) → was ≡ Some x → Err (WrongPart at) ≡ end_at at (parts was)
 not_ended at was x e = rw (e, cut_first 32 x.now)
-
--- a line that is short enough is read from its first part on
-pub short_line : {A : Type 0} (read : ℕ → List (List ℕ) → Result A Fault) (line : List ℕ) (at : ℕ) (ps : List (List ℕ)) → length line ≤ 96 → at ≡ 0 → ps ≡ cut 32 line → read at ps ≡ of_line (read 0) line
-short_line read line at ps h e f = rw (e, f, le-leb (length line) 96 h)
 
 -- pieces, put together again
 some_pieces : (b : ℕ) (s : List ℕ) → 0 < length (cut b s)

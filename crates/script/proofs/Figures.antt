@@ -1,10 +1,10 @@
 -- Lemmas on the digits of a number.
-use Rattle.std.proofs.Common.{◌≡◌, ℕ, ◌+◌, ◌-◌, ◌*◌, ◌<◌, ◌≤◌, min, Bool, true, not, ◌&&◌, ◌||◌, eqb, List, [], ◌∷◌, length, get_or, drop, decimal, sym, ap, ◌∙◌, ⊎_elim, arith, rules}
-use Rattle.std.specs.Char.{is_ascii_digit}
-use Rattle.std.specs.Str.{all_ascii_digits}
-use Rattle.std.proofs.lemmas.Fmt.{decimal_digit, decimal_nonempty, decimal-digits_value, digits_decimal, first_decimal, length-decimal-le, digits_value-decimal}
-use Rattle.std.proofs.lemmas.List.{at_drop_more}
-use Rattle.std.proofs.lemmas.Str.Parse.{IsNumeralModel, numerals_by_fold, digits_value_short, digit_at}
+use Rattle.std.proofs.Common.{◌≡◌, ℕ, ◌<◌, ◌≤◌, min, true, not, ◌||◌, eqb, List, length, get_or, Ok, Result, decimal, sym, ap, subst, ⊎_elim, arith, rules}
+use Rattle.std.specs.Str.{IsAscii, IsUtf8, all_ascii_digits}
+use Rattle.std.specs.Str.Parse.{ParsesUnsigned}
+use Rattle.std.proofs.lemmas.Str.{IsUtf8-from_ascii}
+use Rattle.std.proofs.lemmas.Fmt.{decimal_digit, decimal_nonempty, decimal-digits_value, digits_decimal, first_decimal, length-decimal-le, digits_value-decimal, parse-decimal, IsAscii-decimal}
+use Rattle.std.proofs.lemmas.Str.Parse.{IsNumeralModel, numerals_by_fold, digits_value_short}
 use Rattle.std.proofs.lemmas.Bool.{and_from, and_parts, or_left, or_right, not_from_false, cases_lt, eq-eqb, ne_eqb, lt-ltb, le-leb, ltb-true, leb-true}
 use Rattle.std.proofs.lemmas.Bool.Decides.{nat_tests}
 use Rattle.script.specs.Answers.{shown}
@@ -12,14 +12,6 @@ use Rattle.script.specs.Numbers.{value_after, value, is_number}
 
 pub own : IsNumeralModel (λ ds. all_ascii_digits ds ≡ true) value
 own = numerals_by_fold _ (search rules) value_after (search rules)
-
-pub value_grows : (n : ℕ) (ds : List ℕ) → n ≤ value_after n ds
-value_grows n [] = omega arith
-value_grows n (c ∷ cs) = omega (arith, value_grows (n * 10 + (c - 48)) cs)
-
--- one more byte of a text is looked at
-pub digits_more : (xs : List ℕ) (i : ℕ) (t : Bool) → i < length xs → t ≡ is_ascii_digit (get_or xs i 0) → all_ascii_digits (drop i xs) ≡ all_ascii_digits xs → (t && all_ascii_digits (drop (i + 1) xs)) ≡ all_ascii_digits xs
-digits_more xs i t h e inv = ap (λ b. b && all_ascii_digits (drop (i + 1) xs)) e ∙ sym (at_drop_more all_ascii_digits xs i 0 h) ∙ inv
 
 -- a text that has the form of a number
 pub record Formed (text : List ℕ) : Type 0 where
@@ -37,21 +29,6 @@ formed text e =
 
 pub value_small : (text : List ℕ) → is_number text ≡ true → value text < 10000000
 value_small text e = let f = formed text e in digits_value_short own text 7 f.digits f.short
-
--- one more digit is read
-pub record Digit (xs : List ℕ) (i n : ℕ) : Type 0 where
-  pub low : 48 ≤ get_or xs i 0
-  pub next : value_after (n * 10 + (get_or xs i 0 - 48)) (drop (i + 1) xs) ≡ value xs
-  pub small : n * 10 + (get_or xs i 0 - 48) < 10000000
-
-pub digit : (xs : List ℕ) (i n : ℕ) → is_number xs ≡ true → i < length xs → value_after n (drop i xs) ≡ value xs → Digit xs i n
-digit xs i n e h inv =
-    let next : value_after (n * 10 + (get_or xs i 0 - 48)) (drop (i + 1) xs) ≡ value xs = sym (at_drop_more (value_after n) xs i 0 h) ∙ inv in
-    record {
-      low = (digit_at xs i (own.to xs (formed xs e).digits) h).0;
-      next = next;
-      small = omega (arith, next, value_small xs e, value_grows (n * 10 + (get_or xs i 0 - 48)) (drop (i + 1) xs));
-    }
 
 lead : (n : ℕ) → n ≤ 9999999 → (not (eqb (get_or (decimal n) 0 0) 48) || eqb (length (decimal n)) 1) ≡ true
 lead n h =
@@ -73,6 +50,13 @@ value_written n h = digits_value-decimal own n (omega arith)
 -- a text that has the form of a number is what is written of its value
 pub written_value : (text : List ℕ) → is_number text ≡ true → decimal (value text) ≡ text
 written_value text e = let f = formed text e in decimal-digits_value own text f.digits f.some f.lead (omega (arith, value_small text e))
+
+-- such a text can be read as one of characters, and is parsed
+pub number_text : (text : List ℕ) → is_number text ≡ true → IsUtf8 text
+number_text text e = IsUtf8-from_ascii text (subst IsAscii (written_value text e) (IsAscii-decimal (value text) (omega (arith, value_small text e))))
+
+pub parsed : {E : Type 0} (text : List ℕ) (r : Result ℕ E) → is_number text ≡ true → ParsesUnsigned 32 10 text r → r ≡ Ok (value text)
+parsed text r e p = parse-decimal 32 (value text) text r (omega (arith, value_small text e)) (omega (arith, value_small text e)) (sym (written_value text e)) p
 
 pub shown_short : (n : ℕ) → length (shown n) ≤ 7
 shown_short n = length-decimal-le 7 (min n 9999999) (omega arith) (omega arith) (omega arith)

@@ -1,6 +1,5 @@
 pub mod Cutting
 pub mod Figures
-pub mod Meanings
 pub mod Matching
 pub mod Rows
 pub mod Newlines

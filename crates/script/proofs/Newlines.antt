@@ -1,12 +1,19 @@
 -- Lemmas on the lines of a script.
-use Rattle.std.proofs.Common.{◌≡◌, ℕ, zero, suc, ◌<◌, true, false, cond, eqb, ◌⊎◌, List, [], ◌∷◌, ◌++◌, length, get_or, Some, Option, sym, refl, ap, ◌∙◌, inl, inr, ⊎_elim, arith, Bor}
+use Rattle.std.proofs.Common.{◌≡◌, ℕ, zero, suc, ◌<◌, true, false, cond, eqb, ◌⊎◌, List, [], ◌∷◌, ◌++◌, length, get_or, Some, None, Option, MatchOption, IsSome, Bool, not, sym, refl, ap, ◌∙◌, inl, inr, ⊎_elim, arith, Bor}
 use Rattle.std.specs.Option.{option_map}
-use Rattle.std.proofs.lemmas.Bool.{cases_Bool, cond_both, true≢false, eqb-true, eqb-false}
+use Rattle.std.specs.Bool.{then_some}
+use Rattle.std.proofs.lemmas.Bool.{cases_Bool, cond_both, eqb-true, eqb-false, ne_eqb}
 use Rattle.std.specs.List.{AllByRecursion}
 use Rattle.script.specs.Laws.{LinesMakeTheScript}
-use Rattle.script.specs.Lines.{unended, lines_of, lines_left, lines_after}
+use Rattle.script.specs.Lines.{unended, lines_of, lines_left}
 use Rattle.script.specs.Parts.{until, after, cut, onto}
 use Rattle.script.proofs.Cutting.{pieces, cut_first, joined_cut}
+
+-- the lines of what stands after a line, if it has a newline
+abbrev pub lines_after : Option (List ℕ) → List (List ℕ)
+lines_after None = []
+lines_after (Some []) = []
+lines_after (Some (c ∷ cs)) = lines_of (c ∷ cs)
 
 -- one byte, which may be a newline
 last_until : (d : ℕ) → until 10 (unended (d ∷ [])) ≡ until 10 (d ∷ [])
@@ -41,13 +48,19 @@ first_line s = cut_first 10 (unended s) ∙ (λ i. until_unended s i ∷ after_u
 pub line_taken : (was : Option (Bor (List ℕ))) (x : Bor (List ℕ)) (line : List ℕ) (o is : Option (Bor (List ℕ))) → was ≡ Some x → line ≡ until 10 x.now → option_map (λ y. y.now) o ≡ after 10 x.now → lines_left is ≡ lines_after (option_map (λ y. y.now) o) → lines_left was ≡ line ∷ lines_left is
 line_taken was x line o is e f g h = rw (e, f, h, g) (first_line x.now)
 
-pub after_some : (s : List ℕ) → eqb (length s) 0 ≡ false → lines_of s ≡ lines_after (Some s)
-after_some [] n = absurd (true≢false n)
-after_some (c ∷ cs) n = refl
+some_kept : (x : Bor (List ℕ)) (s : List ℕ) → x.now ≡ s → lines_left (then_some (not (eqb (length s) 0)) x) ≡ lines_after (Some s)
+some_kept x [] e = refl
+some_kept x (c ∷ cs) e = rw (ne_eqb (suc (length cs)) 0 (λ z. omega arith)) (ap lines_of e)
 
-pub after_empty : (s : List ℕ) → eqb (length s) 0 ≡ true → [] ≡ lines_after (Some s)
-after_empty [] n = refl
-after_empty (c ∷ cs) n = absurd (omega (arith, eqb-true _ 0 n))
+-- a newline at the end begins no line: what stands behind it is kept if it is not empty
+pub kept : (rest is : Option (Bor (List ℕ))) (Answers : Bor (List ℕ) → Bool → Type 0) → ((x : Bor (List ℕ)) (b : Bool) → Answers x b → b ≡ not (eqb (length x.now) 0)) → MatchOption rest (is ≡ None) (λ x. (b : Bool) × Answers x b × (is ≡ then_some b x)) → lines_left is ≡ lines_after (option_map (λ y. y.now) rest)
+kept None is A test h = ap lines_left h
+kept (Some x) is A test h = ap lines_left h.2 ∙ ap (λ b. lines_left (then_some b x)) (test x h.0 h.1) ∙ some_kept x x.now refl
+
+-- a script has a line
+pub some_line : (script : List ℕ) (lines left : List (List ℕ)) (r : Option (Bor (List ℕ))) → lines ≡ lines_of script → MatchOption r ((lines ≡ []) × (left ≡ [])) (λ line. lines ≡ line.now ∷ left) → IsSome r
+some_line script lines left None e h = let long = ap length (sym (first_line script) ∙ sym e ∙ h.0) in absurd (omega arith)
+some_line script lines left (Some line) e h = refl
 
 -- no piece holds the byte that it was cut at
 abbrev Free : ℕ → List ℕ → Type 0

@@ -2,6 +2,7 @@ pub mod Answers
 pub mod Laws
 pub mod Lines
 pub mod Numbers
+pub mod Opening
 pub mod Parts
 pub mod Reading
 pub mod Table

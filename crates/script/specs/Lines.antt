@@ -2,7 +2,6 @@
 use Rattle.std.specs.Prelude.{ℕ, cond, List, [], ◌∷◌, Some, None, Option, ◌==◌}
 use Rattle.std.specs.Borrow.{Bor}
 use Rattle.script.specs.Parts.{cut}
-use Rattle.script.specs.declared.lines.Lines.{Lines}
 
 -- the bytes without a newline at the end
 abbrev pub unended : List ℕ → List ℕ
@@ -18,13 +17,3 @@ lines_of script = cut 10 (unended script)
 abbrev pub lines_left : Option (Bor (List ℕ)) → List (List ℕ)
 lines_left None = []
 lines_left (Some s) = lines_of s.now
-
--- the lines of what stands after a line, if it has a newline
-abbrev pub lines_after : Option (List ℕ) → List (List ℕ)
-lines_after None = []
-lines_after (Some []) = []
-lines_after (Some (c ∷ cs)) = lines_of (c ∷ cs)
-
--- the lines that are still to come
-abbrev pub to_come : Lines → List (List ℕ)
-to_come lines = lines_left lines.rest

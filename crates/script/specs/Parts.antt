@@ -62,3 +62,13 @@ parts (Some s) = cut 32 s.now
 abbrev pub room : Option (Bor (List ℕ)) → ℕ
 room None = 0
 room (Some s) = length s.now
+
+-- a place in a line between two parts: the byte at which the next part starts, and the parts that are left. If none is left, at is the
+-- line's length
+pub record Place : Type 0 where
+  pub at : ℕ
+  pub parts : List (List ℕ)
+
+-- the place after the next part
+abbrev pub onward : Place → Place
+onward p = record { at = next p.at p.parts; parts = left p.parts }

@@ -1,5 +1,6 @@
 -- How a line is read, and what is wrong with it: its parts from the left, each held to its column.
-use Rattle.std.specs.Prelude.{ℕ, ◌+◌, cond, List, [], ◌∷◌, length, Some, None, Ok, Err, Option, Result, nat_le}
+use Rattle.std.specs.Prelude.{◌≡◌, ℕ, ◌+◌, cond, List, [], ◌∷◌, length, Some, None, Ok, Err, Option, Result, nat_le}
+use Rattle.std.specs.List.{find}
 use Rattle.std.specs.Option.{ok_or}
 use Rattle.std.specs.Str.{bytes_eq}
 use Rattle.calls.specs.declared.call.Call.{Call}
@@ -8,13 +9,12 @@ use Rattle.calls.specs.declared.fault.Fault.TheVariants.{TooLong, WrongPart, Bad
 use Rattle.calls.specs.declared.header.Header.{Header}
 use Rattle.script.specs.declared.words.Op.{Op}
 use Rattle.script.specs.Numbers.{is_number, value}
-use Rattle.script.specs.Parts.{cut, value_at, left, next}
+use Rattle.script.specs.Parts.{Place, cut, value_at, left, next}
 use Rattle.script.specs.Table.{Column, number, word, Value, Values, spelled, every, row, op_column, header_row, call, header}
 
 -- the word of a list that is spelled so
 abbrev pub meant : {W : Type 0} → (W → List ℕ) → List W → List ℕ → Option W
-meant spell [] text = None
-meant spell (w ∷ ws) text = cond (bytes_eq (spell w) text) (Some w) (meant spell ws text)
+meant spell ws text = find (λ w. bytes_eq (spell w) text) ws
 
 -- what the value of a key is read as, or the fault at the byte at if there is none
 abbrev pub read_value : {V : Type 0} → (List ℕ → Result V Fault) → ℕ → Option (List ℕ) → Result V Fault
@@ -52,8 +52,17 @@ row_at (c ∷ cs) at ps = then (column_at c at ps) (λ v. then (row_at cs (next 
 abbrev pub of_line : {A : Type 0} → (List (List ℕ) → Result A Fault) → List ℕ → Result A Fault
 of_line read line = cond (nat_le (length line) 96) (read (cut 32 line)) (Err TooLong)
 
+-- the place before a line's first part
+abbrev pub place_in : List ℕ → Result Place Fault
+place_in line = of_line (λ ps. Ok (record { at = 0; parts = ps })) line
+
 abbrev pub call_at : Op → ℕ → List (List ℕ) → Result Call Fault
 call_at o at ps = then (row_at (row o) at ps) (λ vs. Ok (call o vs))
+
+-- what an op takes was read from the place p on, up to the place q: no part may be left there. Or it has this fault
+abbrev pub Argued : Op → Place → Place → Result Call Fault → Type 0
+Argued o p q (Ok c) = call_at o p.at p.parts ≡ then (end_at q.at q.parts) (λ _. Ok c)
+Argued o p q (Err fault) = call_at o p.at p.parts ≡ Err fault
 
 abbrev pub command_at : ℕ → List (List ℕ) → Result Call Fault
 command_at at ps = then (column_at op_column at ps) (λ o. call_at o (next at ps) (left ps))

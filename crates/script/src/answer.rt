@@ -1,13 +1,15 @@
 // The line that answers a line.
-ghost use Rattle.std.specs.Prelude.{◌≡◌, ◌+◌, ◌-◌, ◌<◌, ◌≤◌, min, [], ◌∷◌, ◌++◌, length, take, replicate, decimal};
+ghost use Rattle.std.specs.Prelude.{◌≡◌, ◌+◌, ◌<◌, ◌≤◌, min, [], ◌∷◌, ◌++◌, length, decimal};
 ghost use Rattle.script.specs.Answers.{refusal_of, first_of, second_of, shown, answer, padded};
 
 use calls::{Fault, Reply};
+use std::marker::Model;
 
 // An answer has no greater number: a greater one is told as this.
 pub const GREATEST: u32 = 9_999_999;
 
-// The number of the line after line `n`, which stays at the greatest.
+// The number of the line after line `n`, which stays at the greatest. A `zip` over a script's lines with `2..` would go past it, and what
+// prints a number without `write_answer`, as `explain` does, would tell another.
 pub fn next_line_number(n: u32) -> u32
     ensures { result ≡ min (n + 1) 9999999 }
 {
@@ -15,7 +17,7 @@ pub fn next_line_number(n: u32) -> u32
 }
 
 // The last three numbers of an answer: the refusal, the first and the second.
-fn told(outcome: &Result<Reply, Fault>) -> (u32, u32, u32)
+pub fn answer_numbers(outcome: &Result<Reply, Fault>) -> (u32, u32, u32)
     ensures refusal { result.0 ≡ refusal_of outcome.now }
     ensures first { result.1 ≡ first_of outcome.now }
     ensures second { result.2 ≡ second_of outcome.now }
@@ -26,59 +28,76 @@ fn told(outcome: &Result<Reply, Fault>) -> (u32, u32, u32)
     }
 }
 
-// Puts a byte at `at`, and gives the place after it.
-fn put_byte(out: &mut [u8; 32], at: usize, byte: u8) -> usize
-    requires { at < 32 }
-    ensures end { result ≡ at + 1 }
-    ensures front { take result out.new ≡ take at out.old ++ (byte ∷ []) }
-{
-    out[at] = byte;
-    at + 1
+// A text of up to 32 bytes, and zeros behind it.
+#[derive(Drop)]
+struct Text {
+    bytes: [u8; 32],
+    len: usize,
 }
 
-// Puts the decimal digits of `n` from `at` on, and gives the place after them.
-fn put_number(out: &mut [u8; 32], at: usize, n: u32) -> usize
-    requires { at + length (decimal n) ≤ 32 }
-    ensures end { result ≡ at + length (decimal n) }
-    ensures front { take result out.new ≡ take at out.old ++ decimal n }
-{
-    if n < 10 {
-        return put_byte(out, at, b'0' + n as u8);
+impl Model for Text {
+    ghost use Rattle.std.specs.Prelude.{◌≡◌, ℕ, ◌≤◌, List, take};
+    ghost use Rattle.script.specs.Answers.{padded};
+
+    ghost Value = { List ℕ };
+
+    ghost view = { λ s. take s.len s.bytes };
+
+    ghost invariant = { λ s. (s.len ≤ 32) × (s.bytes ≡ padded (take s.len s.bytes)) };
+}
+
+impl Text {
+    fn new() -> Text
+        ensures { result ≡ [] }
+    {
+        Text {
+            bytes: [0; 32],
+            len: 0,
+        }
     }
-    let last = put_number(out, at, n / 10);
-    put_byte(out, last, b'0' + (n % 10) as u8)
+
+    fn push(&mut self, byte: u8)
+        requires { length self.old < 32 }
+        ensures { self.new ≡ self.old ++ byte ∷ [] }
+    {
+        self.bytes[self.len] = byte;
+        self.len += 1;
+    }
+
+    // Adds the decimal digits of a number. `write!` is not used: what it says allows that it fails, and an answer is always written.
+    fn push_digits(&mut self, n: u32)
+        requires { length self.old + length (decimal n) ≤ 32 }
+        ensures { self.new ≡ self.old ++ decimal n }
+    {
+        if n >= 10 {
+            self.push_digits(n / 10);
+        }
+        self.push(b'0' + (n % 10) as u8);
+    }
+
+    // Adds a number of an answer and the byte that ends it.
+    fn push_field(&mut self, n: u32, end: u8)
+        requires { length self.old + 8 ≤ 32 }
+        ensures short { length self.new ≤ length self.old + 8 }
+        ensures text { self.new ≡ self.old ++ (shown n ++ end ∷ []) }
+    {
+        self.push_digits(n.min(GREATEST));
+        self.push(end);
+    }
 }
 
-// Puts a number of an answer and the byte that ends it, and gives the place after it.
-fn put_field(out: &mut [u8; 32], at: usize, n: u32, end: u8) -> usize
-    requires { at + 8 ≤ 32 }
-    ensures end { result ≡ at + length (shown n) + 1 }
-    ensures short { result ≤ at + 8 }
-    ensures front { take result out.new ≡ take at out.old ++ (shown n ++ (end ∷ [])) }
-{
-    let last = put_number(out, at, n.min(GREATEST));
-    put_byte(out, last, end)
-}
-
-// Puts zeros from `at` on.
-fn clear_rest(out: &mut [u8; 32], at: usize)
-    requires { at ≤ 32 }
-    ensures { out.new ≡ take at out.old ++ replicate (32 - at) 0 }
-{
-    out[at..].fill(0);
-}
-
-// Writes the answer to line `line` to the front of `out`, zeros after it, and gives the answer's length. A number past the greatest is
+// Writes the answer to line `line` to the front of `out`, the caller's, since no memory is taken for it, zeros after it, and gives the answer's length. A number past the greatest is
 // told as the greatest.
 pub fn write_answer(out: &mut [u8; 32], line: u32, outcome: &Result<Reply, Fault>) -> usize
     ensures len { result ≡ length (answer line outcome.now) }
     ensures bytes { out.new ≡ padded (answer line outcome.now) }
 {
-    let (refusal, first, second) = told(outcome);
-    let at = put_field(out, 0, line, b' ');
-    let at = put_field(out, at, refusal, b' ');
-    let at = put_field(out, at, first, b' ');
-    let at = put_field(out, at, second, b'\n');
-    clear_rest(out, at);
-    at
+    let (refusal, first, second) = answer_numbers(outcome);
+    let mut text = Text::new();
+    text.push_field(line, b' ');
+    text.push_field(refusal, b' ');
+    text.push_field(first, b' ');
+    text.push_field(second, b'\n');
+    *out = text.bytes;
+    text.len
 }

@@ -16,7 +16,7 @@ pub fn push_answer(
 {
     let mut out = [0; 32];
     let len = write_answer(&mut out, line, outcome);
-    answers.extend_from_slice(&out[0..len])
+    answers.extend_from_slice(&out[..len])
 }
 
 // The answers to a script that ends at a fault of line `line`: that line's alone.

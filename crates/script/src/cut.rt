@@ -8,12 +8,10 @@ pub(crate) fn cut_once(bytes: &[u8], mark: u8) -> (&[u8], Option<&[u8]>)
     ensures front { result.0.now ≡ until mark bytes.now }
     ensures rest { option_map (λ x. x.now) result.1 ≡ after mark bytes.now }
 {
-    for (i, byte) in bytes.iter().enumerate() {
-        if *byte == mark {
-            return (&bytes[0..i], Some(&bytes[i + 1..]));
-        }
+    match bytes.iter().position(|byte| *byte == mark) {
+        Some(at) => (&bytes[..at], Some(&bytes[at + 1..])),
+        None => (bytes, None),
     }
-    (bytes, None)
 }
 
 // The value that the first part of a line gives to a key.

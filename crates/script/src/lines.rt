@@ -1,8 +1,10 @@
 // A script, line by line.
-ghost use Rattle.std.specs.Prelude.{◌≡◌, [], ◌∷◌, length, Some, MatchOption, nat_le};
-ghost use Rattle.script.specs.Lines.{lines_of, lines_left, lines_after, to_come};
+ghost use Rattle.std.specs.Prelude.{◌≡◌, [], ◌∷◌, length, MatchOption, nat_le};
+ghost use Rattle.std.specs.Iterator.{YieldsFirstRef, item_count};
+ghost use Rattle.script.specs.Lines.{lines_of};
 
 use crate::cut::cut_once;
+use std::marker::Model;
 
 // The bytes that a script may have.
 pub const SCRIPT_LIMIT: usize = 32768;
@@ -14,13 +16,6 @@ pub fn script_fits(script: &[u8]) -> bool
     script.len() <= SCRIPT_LIMIT
 }
 
-// What stands after a newline. A newline at the script's end begins no line.
-fn unless_empty(rest: &[u8]) -> Option<&[u8]>
-    ensures { lines_left result ≡ lines_after (Some rest.now) }
-{
-    if rest.is_empty() { None } else { Some(rest) }
-}
-
 // The lines of a script that are still to come.
 #[derive(Drop)]
 pub struct Lines<'s> {
@@ -28,23 +23,43 @@ pub struct Lines<'s> {
     rest: Option<&'s [u8]>,
 }
 
+impl<'s> Model for Lines<'s> {
+    ghost use Rattle.std.specs.Prelude.{ℕ, List};
+
+    ghost Value = { List (List ℕ) };
+
+    ghost use Rattle.script.specs.Lines.{lines_left};
+
+    ghost view = { λ s. lines_left s.rest };
+}
+
 impl<'s> Lines<'s> {
     // All lines of a script. An empty script is one empty line.
     pub fn new(script: &'s [u8]) -> Lines<'s>
-        ensures { to_come result ≡ lines_of script.now }
+        ensures { result ≡ lines_of script.now }
     {
         Lines { rest: Some(script) }
     }
 
     // The next line, without its newline.
     pub fn next_line(&mut self) -> Option<&'s [u8]>
-        ensures { MatchOption result ((to_come self.old ≡ []) × (to_come self.new ≡ [])) (λ line. to_come self.old ≡ line.now ∷ to_come self.new) }
+        ensures { MatchOption result ((self.old ≡ []) × (self.new ≡ [])) (λ line. self.old ≡ line.now ∷ self.new) }
     {
         let (line, rest) = cut_once(self.rest?, b'\n');
-        self.rest = match rest {
-            Some(rest) => unless_empty(rest),
-            None => None,
-        };
+        // A newline at the script's end begins no line.
+        self.rest = rest.filter(|rest| !rest.is_empty());
         Some(line)
+    }
+}
+
+impl<'s> Iterator for Lines<'s> {
+    type Item = &'s [u8];
+
+    ghost next_gives = { YieldsFirstRef (λ lines. lines) };
+
+    ghost remaining = { item_count (λ lines. lines) };
+
+    fn next(&mut self) -> Option<&'s [u8]> {
+        self.next_line()
     }
 }

@@ -1,9 +1,12 @@
 // What the format's rules say of examples.
 use crate::answer::write_answer;
 use crate::cut::look_up;
+use crate::input::read_script;
 use crate::lines::Lines;
+use crate::open::{Unopened, open_script};
 use crate::read::read_header;
-use calls::{Fault, Reply};
+use calls::{BoardKind, Fault, Header, Reply, RuleName};
+use std::io;
 use std::process::Abort;
 
 // The refusal of a header's line and the byte that it names.
@@ -54,6 +57,37 @@ fn lines_of_a_script(rt: HostRuntime) {
     assert!(rt; lines.next_line() == Some(b""));
     assert!(rt; lines.next_line() == Some(b" b"));
     assert!(rt; lines.next_line() == None);
+}
+
+#[test]
+fn opened_scripts(rt: HostRuntime) {
+    let Ok((header, mut lines)) = open_script(b"board=switch items=2 seats=3 rule=warp\na\nb\n")
+    else {
+        return assert!(rt; false);
+    };
+    assert!(rt;
+        header
+            == Header {
+                board: BoardKind::Switch,
+                items: 2,
+                seats: 3,
+                rule: RuleName::Warp
+            }
+    );
+    assert!(rt; lines.next() == Some(b"a"));
+    assert_eq!(rt; lines.count(), 1);
+    let Err(unopened) = open_script(b"op=show item=0") else {
+        return assert!(rt; false);
+    };
+    assert!(rt; unopened == Unopened::NoHeader(Fault::WrongPart { at: 0 }));
+    assert!(rt; unopened.line() == 1 && unopened.fault() == Fault::WrongPart { at: 0 });
+}
+
+#[test]
+fn a_script_that_is_read(rt: HostRuntime) -> io::Result<()> {
+    let script: &[u8] = b"board=switch\n";
+    assert!(rt; read_script(rt.alloc(), script)?.as_slice() == script);
+    Ok(())
 }
 
 #[test]

@@ -6,7 +6,7 @@ ghost use Rattle.script.specs.Table.{class_word, all_classes, mode_word, all_mod
 use calls::{BoardKind, Class, Mode, RuleName};
 
 // The word that names a call.
-#[derive(Clone, Copy, Debug)]
+#[derive(Clone, Copy, Debug, PartialEq, Eq)]
 pub enum Op {
     Admit,
     Revoke,
@@ -28,7 +28,7 @@ pub trait Listed: Copy + 'static {
     fn all() -> &'static [Self]
         ensures { result.now ≡ every };
 
-    // How the word is written.
+    // How the word is written: bytes, and no `Display`, since a line need not be text.
     fn spelling(&self) -> &'static [u8]
         ensures { result.now ≡ spelled self.now };
 }
@@ -37,12 +37,10 @@ pub trait Listed: Copy + 'static {
 pub(crate) fn meant<W: Listed>(text: &[u8]) -> Option<W>
     ensures { result ≡ meant W.Listed.spelled W.Listed.every text.now }
 {
-    for word in W::all() {
-        if word.spelling() == text {
-            return Some(*word);
-        }
-    }
-    None
+    W::all()
+        .iter()
+        .copied()
+        .find(|word| word.spelling() == text)
 }
 
 impl Listed for Op {

@@ -1,11 +1,11 @@
-use Rattle.std.proofs.Common.{◌∙◌, arith}
-use Rattle.script.specs.Answers.{answer}
-use Rattle.script.proofs.Pasting.{Answered, answered}
+use Rattle.std.proofs.Common.{◌≡◌, ap, ◌∙◌}
+use Rattle.script.specs.Answers.{answer, padded}
+use Rattle.script.proofs.Pasting.{answered}
 use Rattle.script.proofs.answer.write_answer.Goals as goal
 
-pub returns : goal.returns
-returns c =
-    let told = c.told-refusal.ensures in
-    let a = answered c.args.line c.told-refusal.result.0 c.told-refusal.result.1 c.told-refusal.result.2 c.put_field-at-4.result c.put_field-at-4.new.out _ _ _ c.put_field-at.ensures.front c.put_field-at-2.ensures.front c.put_field-at-3.ensures.front c.put_field-at-4.ensures.front (omega arith) in
-    let b : Answered (answer c.args.line c.args.outcome.now) c.put_field-at-4.result c.put_field-at-4.new.out = simp (told.refusal, told.first, told.second) at a in
-    record { len = b.len; bytes = c.clear_rest.ensures ∙ b.bytes }
+pub returns-clause-bytes : goal.returns-clause-bytes
+returns-clause-bytes c =
+    let told = c.answer_numbers-refusal.ensures in
+    let fields = answered _ _ _ _ _ _ _ _ _ c.new-text.ensures c.push_field.ensures.text c.push_field-2.ensures.text c.push_field-3.ensures.text c.push_field-4.ensures.text in
+    let whole : c.push_field-4.new.self ≡ answer c.args.line c.args.outcome.now = simp (told.refusal, told.first, told.second) at fields in
+    c.text.invariant.1 ∙ ap padded (c.text.view_is ∙ whole)

@@ -1,28 +1,80 @@
-use Rattle.std.proofs.Common.{sym, ap, ◌∙◌}
-use Rattle.script.specs.Parts.{parts}
-use Rattle.script.specs.Reading.{call_at}
+use Rattle.std.proofs.Common.{rules}
 use Rattle.script.proofs.read.arguments.Goals as goal
 
-pub returns-in-Admit : goal.returns-in-Admit
-returns-in-Admit c = c.admit.ensures ∙ ap (λ o. call_at o c.args.scan.at (parts c.args.scan.rest)) (sym c.in-Admit.is)
+pub returns-in_err-number-in-Admit : goal.returns-in_err-number-in-Admit
+returns-in_err-number-in-Admit c = rw c.in-Admit.is (search rules)
 
-pub returns-in-Revoke : goal.returns-in-Revoke
-returns-in-Revoke c = c.revoke.ensures ∙ ap (λ o. call_at o c.args.scan.at (parts c.args.scan.rest)) (sym c.in-Revoke.is)
+pub returns-in_err-word-in-Admit : goal.returns-in_err-word-in-Admit
+returns-in_err-word-in-Admit c = rw c.in-Admit.is (search rules)
 
-pub returns-in-Begin : goal.returns-in-Begin
-returns-in-Begin c = c.begin.ensures ∙ ap (λ o. call_at o c.args.scan.at (parts c.args.scan.rest)) (sym c.in-Begin.is)
+pub returns-in_err-number-in-Revoke : goal.returns-in_err-number-in-Revoke
+returns-in_err-number-in-Revoke c = rw c.in-Revoke.is (search rules)
 
-pub returns-in-Read : goal.returns-in-Read
-returns-in-Read c = c.read.ensures ∙ ap (λ o. call_at o c.args.scan.at (parts c.args.scan.rest)) (sym c.in-Read.is)
+pub returns-in_err-number-in-Begin : goal.returns-in_err-number-in-Begin
+returns-in_err-number-in-Begin c = rw c.in-Begin.is (search rules)
 
-pub returns-in-Write : goal.returns-in-Write
-returns-in-Write c = c.write.ensures ∙ ap (λ o. call_at o c.args.scan.at (parts c.args.scan.rest)) (sym c.in-Write.is)
+pub returns-in_err-number-in-Begin-2 : goal.returns-in_err-number-in-Begin-2
+returns-in_err-number-in-Begin-2 c = rw c.in-Begin.is (search rules)
 
-pub returns-in-Commit : goal.returns-in-Commit
-returns-in-Commit c = c.commit.ensures ∙ ap (λ o. call_at o c.args.scan.at (parts c.args.scan.rest)) (sym c.in-Commit.is)
+pub returns-in_err-word-in-Begin : goal.returns-in_err-word-in-Begin
+returns-in_err-word-in-Begin c = rw c.in-Begin.is (search rules)
 
-pub returns-in-Abandon : goal.returns-in-Abandon
-returns-in-Abandon c = c.abandon.ensures ∙ ap (λ o. call_at o c.args.scan.at (parts c.args.scan.rest)) (sym c.in-Abandon.is)
+pub returns-in_err-number-in-Read : goal.returns-in_err-number-in-Read
+returns-in_err-number-in-Read c = rw c.in-Read.is (search rules)
 
-pub returns-in-Show : goal.returns-in-Show
-returns-in-Show c = c.show.ensures ∙ ap (λ o. call_at o c.args.scan.at (parts c.args.scan.rest)) (sym c.in-Show.is)
+pub returns-in_err-number-in-Read-2 : goal.returns-in_err-number-in-Read-2
+returns-in_err-number-in-Read-2 c = rw c.in-Read.is (search rules)
+
+pub returns-in_err-number-in-Read-3 : goal.returns-in_err-number-in-Read-3
+returns-in_err-number-in-Read-3 c = rw c.in-Read.is (search rules)
+
+pub returns-in_err-number-in-Write : goal.returns-in_err-number-in-Write
+returns-in_err-number-in-Write c = rw c.in-Write.is (search rules)
+
+pub returns-in_err-number-in-Write-2 : goal.returns-in_err-number-in-Write-2
+returns-in_err-number-in-Write-2 c = rw c.in-Write.is (search rules)
+
+pub returns-in_err-number-in-Write-3 : goal.returns-in_err-number-in-Write-3
+returns-in_err-number-in-Write-3 c = rw c.in-Write.is (search rules)
+
+pub returns-in_err-number-in-Write-4 : goal.returns-in_err-number-in-Write-4
+returns-in_err-number-in-Write-4 c = rw c.in-Write.is (search rules)
+
+pub returns-in_err-number-in-Commit : goal.returns-in_err-number-in-Commit
+returns-in_err-number-in-Commit c = rw c.in-Commit.is (search rules)
+
+pub returns-in_err-number-in-Commit-2 : goal.returns-in_err-number-in-Commit-2
+returns-in_err-number-in-Commit-2 c = rw c.in-Commit.is (search rules)
+
+pub returns-in_err-number-in-Abandon : goal.returns-in_err-number-in-Abandon
+returns-in_err-number-in-Abandon c = rw c.in-Abandon.is (search rules)
+
+pub returns-in_err-number-in-Abandon-2 : goal.returns-in_err-number-in-Abandon-2
+returns-in_err-number-in-Abandon-2 c = rw c.in-Abandon.is (search rules)
+
+pub returns-in_err-number-in-Show : goal.returns-in_err-number-in-Show
+returns-in_err-number-in-Show c = rw c.in-Show.is (search rules)
+
+pub returns-in_ok-word-in-Admit : goal.returns-in_ok-word-in-Admit
+returns-in_ok-word-in-Admit c = rw c.in-Admit.is (search rules)
+
+pub returns-in_ok-number-in-Revoke : goal.returns-in_ok-number-in-Revoke
+returns-in_ok-number-in-Revoke c = rw c.in-Revoke.is (search rules)
+
+pub returns-in_ok-word-in-Begin : goal.returns-in_ok-word-in-Begin
+returns-in_ok-word-in-Begin c = rw c.in-Begin.is (search rules)
+
+pub returns-in_ok-number-in-Read-3 : goal.returns-in_ok-number-in-Read-3
+returns-in_ok-number-in-Read-3 c = rw c.in-Read.is (search rules)
+
+pub returns-in_ok-number-in-Write-4 : goal.returns-in_ok-number-in-Write-4
+returns-in_ok-number-in-Write-4 c = rw c.in-Write.is (search rules)
+
+pub returns-in_ok-number-in-Commit-2 : goal.returns-in_ok-number-in-Commit-2
+returns-in_ok-number-in-Commit-2 c = rw c.in-Commit.is (search rules)
+
+pub returns-in_ok-number-in-Abandon-2 : goal.returns-in_ok-number-in-Abandon-2
+returns-in_ok-number-in-Abandon-2 c = rw c.in-Abandon.is (search rules)
+
+pub returns-in_ok-number-in-Show : goal.returns-in_ok-number-in-Show
+returns-in_ok-number-in-Show c = rw c.in-Show.is (search rules)

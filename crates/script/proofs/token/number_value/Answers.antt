@@ -1,20 +1,31 @@
-use Rattle.std.proofs.Common.{sym, ◌∙◌, arith}
-use Rattle.std.proofs.lemmas.List.{at_drop_all}
-use Rattle.script.specs.Numbers.{value_after}
-use Rattle.script.proofs.Figures.{digit}
+use Rattle.std.proofs.Common.{◌≡◌, List, ℕ, Ok, Err, Result, Bor, MatchResult, IsOk, is_ok, refl, sym, ap, ◌∙◌, subst}
+use Rattle.std.specs.Str.{IsUtf8}
+use Rattle.std.specs.Str.Parse.{ParsesUnsigned}
+use Rattle.script.specs.Numbers.{value}
+use Rattle.script.proofs.Figures.{number_text, parsed}
 use Rattle.script.proofs.token.number_value.Goals as goal
+use Rattle.script.proofs.token.number_value.Goals.{After-parse}
 
-pub overflow_mul-n : goal.overflow_mul-n
-overflow_mul-n c = omega (arith, (digit c.args.text.now c.loop-digit.digit-index c.loop-digit.n c.requires c.loop-digit-test.true c.loop-digit.invariant).small)
+-- `from_utf8` gives a text that can be read so, and gives the same text
+module _ {E : Type 0} (P : E → Type 0) (text : List ℕ) where
+  text_given : (r : Result (Bor (List ℕ)) E) → MatchResult r (λ s. (s.now ≡ text) × IsUtf8 text) (λ e. ¬ (IsUtf8 text) × P e) → IsUtf8 text → IsOk r
+  text_given (Ok s) h u = refl
+  text_given (Err d) h u = absurd (h.0 u)
 
-pub overflow_sub-n : goal.overflow_sub-n
-overflow_sub-n c = (digit c.args.text.now c.loop-digit.digit-index c.loop-digit.n c.requires c.loop-digit-test.true c.loop-digit.invariant).low
+  same_text : (r : Result (Bor (List ℕ)) E) (s : Bor (List ℕ)) → MatchResult r (λ s. (s.now ≡ text) × IsUtf8 text) (λ e. ¬ (IsUtf8 text) × P e) → r ≡ Ok s → s.now ≡ text
+  same_text r s h e = let t = subst (λ q. MatchResult q (λ s. (s.now ≡ text) × IsUtf8 text) (λ e. ¬ (IsUtf8 text) × P e)) e h in t.0
 
-pub overflow_add-n : goal.overflow_add-n
-overflow_add-n c = omega (arith, (digit c.args.text.now c.loop-digit.digit-index c.loop-digit.n c.requires c.loop-digit-test.true c.loop-digit.invariant).small)
+read : (c : After-parse) → c.parse.result ≡ Ok (value c.args.text.now)
+read c =
+    parsed c.args.text.now c.parse.result c.requires (subst (λ s. ParsesUnsigned 32 10 s c.parse.result) (same_text _ c.args.text.now c.from_utf8.result c.unwrap.result c.from_utf8.ensures.cases c.unwrap.ensures) c.parse.ensures.value.0)
 
-pub loop-digit-preserved : goal.loop-digit-preserved
-loop-digit-preserved c = (digit c.args.text.now c.loop-digit.digit-index c.loop-digit.n c.requires c.loop-digit-test.true c.loop-digit.invariant).next
+pub unwrap-requires : goal.unwrap-requires
+unwrap-requires c = text_given _ c.args.text.now c.from_utf8.result c.from_utf8.ensures.cases (number_text c.args.text.now c.requires)
+
+pub unwrap-requires-2 : goal.unwrap-requires-2
+unwrap-requires-2 c = ap is_ok (read c)
 
 pub returns : goal.returns
-returns c = sym (at_drop_all (value_after c.loop-digit.n) c.args.text.now c.loop-digit.digit-index (omega arith)) ∙ c.loop-digit.invariant
+returns c =
+    let e : Ok c.unwrap-2.result ≡ Ok (value c.args.text.now) = sym c.unwrap-2.ensures ∙ read (goal.at.returns c).After-parse in
+    cc
