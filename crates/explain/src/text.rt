@@ -1,12 +1,11 @@
 // What is told of a script, line by line.
 ghost use Rattle.std.specs.Prelude.{◌≡◌, IfOk, string_bytes};
-ghost use Rattle.script.specs.Lines.{to_come};
 ghost use Rattle.script.specs.Reading.{command_of};
 ghost use Rattle.explain.specs.Words.{written, line_told, told_from, explain_of};
 
 use crate::words::words_of;
 use calls::{BoardKind, Call, Write};
-use script::{Lines, next_line_number, read_command, read_header, script_fits};
+use script::{Lines, Unopened, next_line_number, open_script, read_command};
 use std::alloc::{AllocError, Global};
 
 // What a line writes, if it is a write's.
@@ -36,16 +35,12 @@ fn explain_line(
 }
 
 // What is told of a script's commands, which are all its lines but the first.
-fn explain_commands(
-    heap: Global,
-    board: BoardKind,
-    mut lines: Lines<'_>,
-) -> Result<String, AllocError>
-    ensures { IfOk result (λ s. string_bytes s ≡ told_from board 2 (to_come lines.entry)) }
+fn explain_commands(heap: Global, board: BoardKind, lines: Lines<'_>) -> Result<String, AllocError>
+    ensures { IfOk result (λ s. string_bytes s ≡ told_from board 2 lines.entry) }
 {
     let mut text = String::new(heap);
     let mut number = 2;
-    while let Some(line) = lines.next_line() {
+    for line in lines {
         let told = explain_line(heap, board, number, line)?;
         text.push_str(&told)?;
         number = next_line_number(number);
@@ -57,15 +52,9 @@ fn explain_commands(
 pub fn explain_script(heap: Global, script: &[u8]) -> Result<String, AllocError>
     ensures { IfOk result (λ s. string_bytes s ≡ explain_of script.now) }
 {
-    if !script_fits(script) {
-        return String::from_str(heap, "the script is too long\n");
+    match open_script(script) {
+        Ok((header, lines)) => explain_commands(heap, header.board, lines),
+        Err(Unopened::TooLong) => String::from_str(heap, "the script is too long\n"),
+        Err(Unopened::NoHeader(_)) => String::from_str(heap, "line 1 is no header\n"),
     }
-    let mut lines = Lines::new(script);
-    let Some(first) = lines.next_line() else {
-        return Ok(String::new(heap));
-    };
-    let Ok(header) = read_header(first) else {
-        return String::from_str(heap, "line 1 is no header\n");
-    };
-    explain_commands(heap, header.board, lines)
 }

@@ -9,9 +9,9 @@ use std::fmt::Display;
 
 // The words of the state that a code of the kind stands for, or that the kind has no such code.
 fn state_words<K: Kind + Display>(heap: Global, code: u32) -> Result<String, AllocError>
-    ensures { IfOk result (λ s. (told : List ℕ) → K.Display.output (K.Kind.decoded code) ≡ Some told → string_bytes s ≡ (if nat_lt code K.Kind.count then told else codes "no such code")) }
+    ensures { IfOk result (λ s. (told : List ℕ) → K.Display.output (K.decoded code) ≡ Some told → string_bytes s ≡ (if nat_lt code K.COUNT then told else codes "no such code")) }
 {
-    if code < K::code_count() {
+    if code < K::COUNT {
         K::from_code(code).to_string(heap)
     } else {
         String::from_str(heap, "no such code")

@@ -1,11 +1,10 @@
 // The answers to a script's lines.
-ghost use Rattle.std.specs.Prelude.{◌≡◌, true, ◌++◌, is_ok, IfOk};
-ghost use Rattle.script.specs.Lines.{to_come};
+ghost use Rattle.std.specs.Prelude.{◌≡◌, IfOk};
 ghost use Rattle.script.specs.Reading.{command_of};
 ghost use Rattle.lint.specs.Answers.{verdict, answers_from, lint_of};
 
 use calls::{Fault, Reply};
-use script::{Lines, next_line_number, push_answer, read_command, read_header, script_fits};
+use script::{Lines, next_line_number, only_answer, open_script, push_answer, read_command};
 use std::alloc::{AllocError, Global};
 
 // What is said of a command's line.
@@ -16,34 +15,26 @@ fn verdict(line: &[u8]) -> Result<Reply, Fault>
     Ok(Reply::Done)
 }
 
-// Adds the answers to a script's commands, which are all its lines but the first.
-fn push_answers(answers: &mut Vec<u8>, mut lines: Lines<'_>) -> Result<(), AllocError>
-    ensures { is_ok result ≡ true → answers.new.items ≡ answers.old.items ++ answers_from 2 (to_come lines.entry) }
+// The answers to a script's commands, which are all its lines but the first. (`player` goes over them alike, with a board: a function for both
+// would take a closure, and require of its caller that it can be called.)
+fn answer_commands(heap: Global, lines: Lines<'_>) -> Result<Vec<u8>, AllocError>
+    ensures { IfOk result (λ v. v.items ≡ answers_from 2 lines.entry) }
 {
+    let mut answers = Vec::new(heap);
     let mut number = 2;
-    while let Some(line) = lines.next_line() {
-        push_answer(answers, number, &verdict(line))?;
+    for line in lines {
+        push_answer(&mut answers, number, &verdict(line))?;
         number = next_line_number(number);
     }
-    Ok(())
+    Ok(answers)
 }
 
 // The answers to a script's lines, one after the other.
 pub fn answer_script(heap: Global, script: &[u8]) -> Result<Vec<u8>, AllocError>
     ensures { IfOk result (λ v. v.items ≡ lint_of script.now) }
 {
-    let mut answers = Vec::new(heap);
-    if !script_fits(script) {
-        push_answer(&mut answers, 0, &Err(Fault::TooLong))?;
-        return Ok(answers);
+    match open_script(script) {
+        Ok((_, lines)) => answer_commands(heap, lines),
+        Err(unopened) => only_answer(heap, unopened.line(), unopened.fault()),
     }
-    let mut lines = Lines::new(script);
-    let Some(first) = lines.next_line() else {
-        return Ok(answers);
-    };
-    match read_header(first) {
-        Ok(_) => push_answers(&mut answers, lines)?,
-        Err(fault) => push_answer(&mut answers, 1, &Err(fault))?,
-    }
-    Ok(answers)
 }
