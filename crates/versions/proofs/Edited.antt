@@ -1,35 +1,32 @@
 -- What slots hold after they are cleared from an index on, and after a version is put in.
-use Rattle.std.proofs.Common.{◌≡◌, ℕ, suc, ◌+◌, ◌-◌, ◌<◌, ◌≤◌, Bool, List, ◌∷◌, ◌++◌, length, get_or, take, drop, set, replicate, sym, ap, ◌∙◌, append-nil, arith, drop-cons}
-use lib.ListN.{length-replicate}
-use lib.Seq.{paste}
+use Rattle.std.proofs.Common.{◌≡◌, ℕ, suc, ◌+◌, ◌-◌, ◌<◌, ◌≤◌, List, [], ◌∷◌, ◌++◌, length, get_or, take, drop, set, replicate, sym, refl, ap, ◌∙◌, subst, append-nil, append_assoc, arith, drop-cons}
+use Rattle.std.specs.List.{FoldsTo, insert}
 use borrow.Rule.Slice.PartMut.{put_mid}
 use Rattle.std.proofs.lemmas.List.{drop_all, take-take, length-take-le, length-drop, set_at, drop-drop}
-use Rattle.std.proofs.lemmas.List.Edits.{paste_all, fill_from_more}
-use Rattle.versions.specs.Slots.{first_index}
-use Rattle.versions.proofs.Indices.{first_index_within}
+use Rattle.std.proofs.lemmas.Slice.{between_is}
 
-pub index_inside : {A : Type 0} (test : A → Bool) (xs : List A) (keep at : ℕ) → keep ≤ length xs → at ≡ first_index test (take (keep - 0) xs) → at ≤ keep
-index_inside test xs keep at le e = omega (arith, first_index_within test (take (keep - 0) xs), length-take-le (keep - 0) xs (omega arith))
+-- what calls that all give one value leave
+pub filled : {X F : Type 0} (R : F → X → F → Type 0) (f last : F) (r : X) → ((x : X) (q : F) → R f x q → (q ≡ f) × (x ≡ r)) → (xs : List X) → FoldsTo R f xs last → xs ≡ replicate (length xs) r
+filled R f last r each [] ran = refl
+filled R f last r each (x ∷ xs) ran =
+    let e = each x ran.0 ran.1 in
+    ap (λ y. y ∷ xs) e.1 ∙ ap (λ l. r ∷ l) (filled R f last r each xs (subst (λ p. FoldsTo R p xs last) e.0 ran.2))
 
-pub cleared : {X : Type 0} (xs ys : List X) (end i : ℕ) (r x : X) → ys ≡ paste xs end (replicate i r) i → i ≡ length xs - end → r ≡ x → ys ≡ take end xs ++ replicate (length xs - end) x
-cleared xs ys end i r x e n is =
-    e
-    ∙ paste_all xs end (replicate i r) i (sym (length-replicate i r))
-    ∙ ap (λ l. take end xs ++ (replicate i r ++ l)) (drop_all (end + i) xs (omega arith))
-    ∙ ap (λ l. take end xs ++ l) (append-nil (replicate i r))
-    ∙ ap (λ k. take end xs ++ replicate k r) n
-    ∙ ap (λ y. take end xs ++ replicate (length xs - end) y) is
-
-pub clear_more : {X : Type 0} (xs ys : List X) (end i : ℕ) (r : X) → ys ≡ paste xs end (replicate i r) i → end + i < length xs → set ys (end + i) r ≡ paste xs end (replicate (i + 1) r) (i + 1)
-clear_more xs ys end i r e lt = ap (λ l. set l (end + i) r) e ∙ fill_from_more xs end i r lt
+pub cleared : {X : Type 0} (xs ys : List X) (end : ℕ) (x : X) → end ≤ length xs → length ys ≡ length (take (length xs - end) (drop end xs)) → ys ≡ replicate (length ys) x → put_mid end (length xs - end) xs ys ≡ take end xs ++ replicate (length xs - end) x
+cleared xs ys end x le n e =
+    ap (λ l. take end xs ++ (ys ++ l)) (drop_all (length xs - end) (drop end xs) (omega (arith, length-drop end xs)))
+    ∙ ap (λ l. take end xs ++ l) (append-nil ys ∙ e ∙ ap (λ k. replicate k x) (n ∙ length-take-le (length xs - end) (drop end xs) (omega (arith, length-drop end xs))))
 
 pub put_at : {X : Type 0} (xs ys : List X) (at keep : ℕ) (new : X) → at ≤ keep → keep < length xs
     → ys ≡ drop (length (take (keep + 1 - at) (drop at xs)) - 1) (take (keep + 1 - at) (drop at xs)) ++ take (length (take (keep + 1 - at) (drop at xs)) - 1) (take (keep + 1 - at) (drop at xs))
-    → set (put_mid at (keep + 1 - at) xs ys) at new ≡ take at xs ++ new ∷ (take (keep - at) (drop at xs) ++ drop (keep + 1) xs)
+    → set (put_mid at (keep + 1 - at) xs ys) at new ≡ insert (take keep xs) at new ++ drop (keep + 1) xs
 put_at {X} xs ys at keep new le lt e =
     ap (λ (l : List X). set (take at xs ++ (l ++ drop (keep + 1 - at) (drop at xs))) at new) (e ∙ turned)
     ∙ set_at (take at xs) (get_or part (keep - at) new) (take (keep - at) (drop at xs) ++ drop (keep + 1 - at) (drop at xs)) new at (length-take-le at xs (omega arith))
     ∙ ap (λ (l : List X). take at xs ++ new ∷ (take (keep - at) (drop at xs) ++ l)) (drop-drop (keep + 1 - at) at xs ∙ ap (λ n. drop n xs) ends)
+    ∙ ap (λ (l : List X). take at xs ++ new ∷ (l ++ drop (keep + 1) xs)) (between_is xs at keep)
+    ∙ ap (λ (l : List X). l ++ new ∷ (drop at (take keep xs) ++ drop (keep + 1) xs)) (sym (take-take at keep xs le))
+    ∙ sym (append_assoc (take at (take keep xs)) (new ∷ drop at (take keep xs)) (drop (keep + 1) xs))
   where
     part : List X
     part = take (keep + 1 - at) (drop at xs)

@@ -1,5 +1,6 @@
-pub mod Indices
-pub mod Walked
+pub mod Positions
+pub mod Seen
+pub mod Missing
 pub mod Spots
 pub mod Edited
-pub mod Storing
+pub mod Laid

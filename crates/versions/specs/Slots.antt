@@ -1,10 +1,10 @@
 -- How a list of versions lies in slots.
-use Rattle.std.specs.Prelude.{ℕ, suc, ◌-◌, Bool, cond, List, [], ◌∷◌, ◌++◌, map, length, replicate, nat_le}
+use Rattle.std.specs.Prelude.{ℕ, ◌-◌, Bool, List, ◌++◌, map, length, replicate, nat_le}
 use Rattle.history.specs.State.{Version as Kept}
 use Rattle.history.specs.Steps.{natural_by, place_by}
 use Rattle.versions.specs.declared.version.Version.{Version}
-use Rattle.versions.specs.declared.slots.Sight.{Sight}
-use Rattle.versions.specs.declared.slots.Sight.TheVariants.{ByNatural, ByPlace}
+use Rattle.versions.specs.declared.sight.Sight.{Sight}
+use Rattle.versions.specs.declared.sight.Sight.TheVariants.{ByNatural, ByPlace}
 
 -- a version by the code of its state
 abbrev pub as_code : {S : Type 0} → (S → ℕ) → Version S → Kept
@@ -25,11 +25,6 @@ in_sight sight limit v = nat_le (number_of sight v) limit
 abbrev pub sees : Sight → ℕ → Kept → Bool
 sees ByNatural limit = natural_by limit
 sees ByPlace limit = place_by limit
-
--- the index of the first that passes the test, or the length
-abbrev pub first_index : {A : Type 0} → (A → Bool) → List A → ℕ
-first_index test [] = 0
-first_index test (x ∷ xs) = cond (test x) 0 (suc (first_index test xs))
 
 -- a list at the front of so many slots, rest versions behind it
 abbrev pub padded : ℕ → Kept → List Kept → List Kept

@@ -1,10 +1,14 @@
 //! An item's list of versions in its slots: head first, and rest versions behind it.
 #![tactic(auto)]
 
-mod slots;
+mod missed;
+mod sight;
+mod spot;
+mod storing;
 mod version;
 
-pub use slots::{
-    Missed, Sight, code_in_sight, count_missed, find, has_room, head_code, lay_at_rest, store,
-};
+pub use missed::{Missed, count_missed};
+pub use sight::{Sight, code_in_sight, find, head_code};
+pub use spot::has_room;
+pub use storing::{lay_at_rest, store};
 pub use version::Version;
