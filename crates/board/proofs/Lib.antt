@@ -12,3 +12,4 @@ pub mod Requesting
 pub mod Ending
 pub mod Committing
 pub mod Keeping
+pub mod Known

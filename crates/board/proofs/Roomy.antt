@@ -1,23 +1,23 @@
 -- Listed items whose lists have no room.
-use Rattle.std.proofs.Common.{◌≡◌, ℕ, zero, suc, ◌+◌, ◌-◌, ◌*◌, ◌<◌, ◌≤◌, min, Bool, true, false, cond, not, eqb, ltb, leb, ◌⊎◌, List, [], ◌∷◌, ◌++◌, length, get_or, take, replicate, Some, None, Option, sym, refl, ap, ◌∙◌, subst, ⊎_elim, arith, MatchOption}
+use Rattle.std.proofs.Common.{◌≡◌, ℕ, zero, suc, ◌+◌, ◌-◌, ◌<◌, ◌≤◌, min, Bool, true, false, cond, not, eqb, ltb, leb, ◌⊎◌, List, [], ◌∷◌, ◌++◌, length, get_or, take, replicate, Some, None, Option, sym, refl, ap, ◌∙◌, subst, ⊎_elim, arith, MatchOption}
 use mathlib.Core.List.Memᴰ
 use mathlib.Core.List.{Memᴰ}
 use lib.ListN.{length-replicate}
 use Rattle.std.specs.List.{AllByRecursion}
 use Rattle.std.proofs.lemmas.Bool.{cond-true, le-leb, lt-leb, leb-false, lt-ltb, le-ltb, eq-eqb, eqb-true, both_ways, cases_lt, cases_Bool}
-use Rattle.std.proofs.lemmas.List.{take_more, length-map, length-append}
+use Rattle.std.proofs.lemmas.List.{take_more, length-append}
 use Rattle.std.proofs.ByRecursion.{All-push, All-weaker}
 use Rattle.calls.specs.declared.write.Write.{Write}
 use Rattle.rules.specs.declared.findings.Findings.{Findings}
 use Rattle.history.specs.State.{Setup, State, Version as Kept, Transaction as Running, at_rest}
 use Rattle.history.specs.Steps.{listed, natural_by, down_to_anchor, insert_version, stored, overfull, is_full, lowest, least_start}
 use Rattle.history.proofs.Lowest.{lowest_none}
-use Rattle.versions.specs.declared.version.Version.{Version}
-use Rattle.versions.specs.Slots.{as_code, as_codes, padded}
-use Rattle.board.specs.declared.board.Board.{Board}
+use Rattle.versions.specs.Slots.{padded}
+use Rattle.board.specs.Contents.{Contents, setup_of}
 use Rattle.board.specs.Lists.{slots_of}
-use Rattle.board.specs.Holding.{setup_of, Holds}
-use Rattle.board.specs.Room.{Reaches, lower_of}
+use Rattle.board.specs.Holding.{Holds}
+use Rattle.versions.specs.Plans.{least_with}
+use Rattle.board.specs.Room.{Reaches}
 use Rattle.board.proofs.Finding.{lowest_at}
 
 -- rest versions behind a list that has its anchor do not matter
@@ -41,22 +41,21 @@ at_listed P (w ∷ ws) item code e k =
       | false ↦ λ _ d. at_listed P ws item code d k.1
     ]) refl e
 
-module _ {S R : Type 0} (state : S → Type 0) (coded : S → ℕ) (rest : S) (count : ℕ) (answers : R → Findings → Option ℕ) (board : Board S R) where
+module _ {R : Type 0} (answers : R → Findings → Option ℕ) (board : Contents R) where
   -- the slots of a listed item have room just if its list is not overfull
-  pub room_is : (item least place : ℕ) (slots : List (Version S)) (r : Bool) (s : State) (x : Running) → Holds state coded rest count answers board s
-      → (8 * item + 8 ≤ length board.versions.now → slots ≡ slots_of board.versions.now item)
-      → ((c : S → ℕ) (n : Kept) → n.place ≡ place → r ≡ leb (length (insert_version n (down_to_anchor least (as_codes c slots)))) (length slots))
-      → Reaches least s → least ≡ least_start (setup_of coded rest count answers board) s x
-      → item < board.items → (code : ℕ) → listed item x.writes ≡ Some code → not r ≡ is_full (setup_of coded rest count answers board) s x place item
+  pub room_is : (item least place : ℕ) (slots : List Kept) (r : Bool) (s : State) (x : Running) → Holds board s → slots ≡ slots_of board.versions item
+      → ((n : Kept) → n.place ≡ place → r ≡ leb (length (insert_version n (down_to_anchor least slots))) (length slots))
+      → Reaches least s → least ≡ least_start (setup_of answers board) s x
+      → item < board.items → (code : ℕ) → listed item x.writes ≡ Some code → not r ≡ is_full (setup_of answers board) s x place item
   room_is item least place slots r s x h at room reach is lt code e =
-      let b = setup_of coded rest count answers board in
+      let b = setup_of answers board in
       let new : Kept = record { code = code; natural = s.clock + 1; place = place } in
-      let codes : as_codes coded slots ≡ padded 8 (at_rest b) (s.items item).versions = ap (as_codes coded) (at (omega (arith, h.memory))) ∙ h.lists item lt in
-      let long : length slots ≡ 8 = sym (length-map slots (as_code coded)) ∙ ap length codes ∙ length-append (s.items item).versions _ ∙ omega (arith, length-replicate (8 - length (s.items item).versions) (at_rest b), h.few_versions item lt) in
+      let codes : slots ≡ padded 8 (at_rest b) (s.items item).versions = at ∙ h.lists item lt in
+      let long : length slots ≡ 8 = ap length codes ∙ length-append (s.items item).versions _ ∙ omega (arith, length-replicate (8 - length (s.items item).versions) (at_rest b), h.few_versions item lt) in
       let w = reach item in
-      let list : insert_version new (down_to_anchor least (as_codes coded slots)) ≡ stored b s x place item (Some code) =
+      let list : insert_version new (down_to_anchor least slots) ≡ stored b s x place item (Some code) =
       ap (insert_version new) (ap (down_to_anchor least) codes ∙ down_padded least _ (at_rest b) (s.items item).versions w.0 w.1 w.2 ∙ ap (λ m. down_to_anchor m (s.items item).versions) is) in
-      ap not (room coded new refl ∙ ap (λ l. leb (length l) (length slots)) list ∙ ap (leb (length (stored b s x place item (Some code)))) long)
+      ap not (room new refl ∙ ap (λ l. leb (length l) (length slots)) list ∙ ap (leb (length (stored b s x place item (Some code)))) long)
       ∙ not_leb (length (stored b s x place item (Some code))) 8
       ∙ ap (overfull b s x place item) (sym e)
 
@@ -66,7 +65,7 @@ LowestOf n test ws None = AllByRecursion (λ (w : Write). test w.item ≡ false)
 LowestOf n test ws (Some item) = (item < n) × (test item ≡ true) × AllByRecursion (λ (w : Write). test w.item ≡ true → item ≤ w.item) ws
 
 module _ (n : ℕ) (test : ℕ → Bool) where
-  pub lowest_passing : (ws : List Write) (w : Write) (o : Option ℕ) → w.item < n → test w.item ≡ true → LowestOf n test ws o → LowestOf n test (ws ++ w ∷ []) (Some (lower_of o w.item))
+  pub lowest_passing : (ws : List Write) (w : Write) (o : Option ℕ) → w.item < n → test w.item ≡ true → LowestOf n test ws o → LowestOf n test (ws ++ w ∷ []) (Some (least_with o w.item))
   lowest_passing ws w None lt e k = (lt, e, All-push (λ (v : Write). test v.item ≡ true → w.item ≤ v.item) ws w (All-weaker _ _ (λ v f t. absurd (both_ways _ f t)) ws k) (λ _. omega arith))
   lowest_passing ws w (Some item) lt e k = ⊎_elim
       (λ l. let is : min item w.item ≡ item = omega arith in subst (λ i. LowestOf n test (ws ++ w ∷ []) (Some i)) (sym is) (k.0, k.1, All-push (λ (v : Write). test v.item ≡ true → item ≤ v.item) ws w k.2 (λ _. omega arith)))
@@ -84,7 +83,7 @@ module _ (n : ℕ) (test : ℕ → Bool) where
 
   -- one item more
   pub lowest_more : (ws : List Write) (k : ℕ) (d : Write) (before after : Option ℕ) (full : Bool) → k < length ws → (get_or ws k d).item < n → full ≡ test (get_or ws k d).item
-      → ((full ≡ true) × (after ≡ Some (lower_of before (get_or ws k d).item))) ⊎ ((full ≡ false) × (after ≡ before))
+      → ((full ≡ true) × (after ≡ Some (least_with before (get_or ws k d).item))) ⊎ ((full ≡ false) × (after ≡ before))
       → LowestOf n test (take k ws) before → LowestOf n test (take (k + 1) ws) after
   lowest_more ws k d before after full lt known is way so_far =
       subst (λ l. LowestOf n test l after) (sym (take_more ws k d lt))

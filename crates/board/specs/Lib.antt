@@ -1,5 +1,7 @@
 pub mod Lists
 pub mod Sizes
+pub mod Contents
+pub mod Sound
 pub mod Holding
 pub mod Looks
 pub mod Ends

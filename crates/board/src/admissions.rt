@@ -1,10 +1,9 @@
 // Who holds a seat.
-ghost use Rattle.std.specs.Prelude.{◌≡◌};
 ghost use Rattle.calls.specs.declared.call.Call.TheVariants.{Admit, Revoke};
 ghost use Rattle.board.specs.Holding.{Follows};
 
 use crate::board::Board;
-use crate::seat::Seat;
+use crate::seat::Held;
 use calls::{Class, Refusal, Reply};
 use kinds::Kind;
 use rules::Rule;
@@ -15,7 +14,7 @@ pub const LIMIT: u32 = 1_000_000;
 impl<K: Kind, R: Rule> Board<'_, K, R> {
     // Gives an empty seat to somebody under the next pass.
     pub(crate) fn admit(&mut self, seat: u32, class: Class) -> Result<Reply, Refusal>
-        ensures { Follows K.Kind.state K.Kind.coded K.Kind.rest K.Kind.count R.Rule.answers self.old self.new (Admit seat class) result }
+        ensures { Follows R.answers self.old self.new (Admit seat class) result }
     {
         let at = self.empty_seat(seat)?;
         if self.passes >= LIMIT {
@@ -23,23 +22,21 @@ impl<K: Kind, R: Rule> Board<'_, K, R> {
         }
         let pass = self.passes + 1;
         self.passes = pass;
-        self.put(
-            at,
-            Seat::Held {
-                pass,
-                class,
-                running: None,
-            },
-        );
+        let held = Held {
+            pass,
+            class,
+            running: None,
+        };
+        self.put(at, Some(held));
         Ok(Reply::Pass(pass))
     }
 
     // Empties a seat, and drops its open transaction.
     pub(crate) fn revoke(&mut self, seat: u32) -> Result<Reply, Refusal>
-        ensures { Follows K.Kind.state K.Kind.coded K.Kind.rest K.Kind.count R.Rule.answers self.old self.new (Revoke seat) result }
+        ensures { Follows R.answers self.old self.new (Revoke seat) result }
     {
         let at = self.taken_seat(seat)?;
-        self.put(at, Seat::Empty);
+        self.put(at, None);
         Ok(Reply::Done)
     }
 }

@@ -1,5 +1,4 @@
 // The one call that a board takes from outside.
-ghost use Rattle.std.specs.Prelude.{◌≡◌};
 ghost use Rattle.board.specs.Holding.{KeepsThePromise};
 
 use crate::board::Board;
@@ -10,8 +9,9 @@ use rules::Rule;
 impl<K: Kind, R: Rule> Board<'_, K, R> {
     // Every call gets its reply or its refusal, and keeps the promise.
     pub fn call(&mut self, call: Call) -> Result<Reply, Refusal>
-        ensures { KeepsThePromise K.Kind.state K.Kind.coded K.Kind.rest K.Kind.count R.Rule.answers self.old self.new call result }
+        ensures { KeepsThePromise R.answers self.old self.new call result }
     {
+        self.is_lawful();
         match call {
             Call::Admit { seat, class } => self.admit(seat, class),
             Call::Revoke { seat } => self.revoke(seat),

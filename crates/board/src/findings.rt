@@ -1,13 +1,15 @@
 // What a commit finds.
-ghost use Rattle.std.specs.Prelude.{◌≡◌, ℕ, ◌+◌, ◌*◌, ◌<◌, ◌≤◌, ltb, length, nat_lt};
-ghost use Rattle.history.specs.State.{State, Transaction as Running};
-ghost use Rattle.history.specs.Steps.{missed, missed_of, lowest, overtaken, findings, least as least_of, starts};
+ghost use Rattle.std.specs.Prelude.{◌≡◌, ℕ, ◌+◌, ◌<◌, List, ◌++◌, length, nat_lt};
+ghost use Rattle.history.specs.State.{State, Version, Transaction as Running};
+ghost use Rattle.history.specs.Steps.{missed, missed_of, lowest, overtaken, findings, least, starts};
 ghost use Rattle.versions.specs.Plans.{Tells};
-ghost use Rattle.board.specs.Holding.{setup_of, Runs, Holds};
+ghost use Rattle.board.specs.Contents.{setup_of};
+ghost use Rattle.board.specs.Holding.{WhileOpen, Holds};
 ghost use Rattle.board.specs.Lists.{starts_in};
+ghost use Rattle.board.specs.Sound.{WritesKnown};
 
 use crate::board::Board;
-use crate::seat::Seat;
+use crate::seat::Held;
 use crate::transaction::Transaction;
 use calls::Class;
 use kinds::Kind;
@@ -17,7 +19,8 @@ use versions::{Missed, count_missed};
 impl<K: Kind, R: Rule> Board<'_, K, R> {
     // The findings of an open transaction that asks to be granted.
     pub(crate) fn findings(&self, class: Class, txn: &Transaction, next: u32) -> Findings
-        ensures { (s : State) (x : Running) → Holds K.Kind.state K.Kind.coded K.Kind.rest K.Kind.count R.Rule.answers self.now s → Runs (setup_of K.Kind.coded K.Kind.rest K.Kind.count R.Rule.answers self.now) txn.now x → next ≡ self.now.clock + 1 → result ≡ findings (setup_of K.Kind.coded K.Kind.rest K.Kind.count R.Rule.answers self.now) s class x }
+        requires { WritesKnown self.now.items self.now.codes txn.now }
+        ensures { WhileOpen self.now txn.now (λ s x. next ≡ self.now.clock + 1 → result ≡ findings (setup_of R.answers self.now) s class x) }
     {
         let missed = self.missed(txn);
         let overtaken = self.overtaken(txn);
@@ -32,89 +35,76 @@ impl<K: Kind, R: Rule> Board<'_, K, R> {
     }
 
     fn missed(&self, txn: &Transaction) -> Missed
-        ensures { (s : State) (x : Running) → Holds K.Kind.state K.Kind.coded K.Kind.rest K.Kind.count R.Rule.answers self.now s → Runs (setup_of K.Kind.coded K.Kind.rest K.Kind.count R.Rule.answers self.now) txn.now x → Tells result (missed (setup_of K.Kind.coded K.Kind.rest K.Kind.count R.Rule.answers self.now) s x) }
+        ensures { WhileOpen self.now txn.now (λ s x. Tells result (missed (setup_of R.answers self.now) s x)) }
     {
-        let mut missed = Missed {
-            earliest: None,
-            warped: false,
-        };
-        for item in 0..self.items.min(256) {
-            if txn.marks[item] {
-                missed = count_missed(self.slots(item), txn.start, missed);
-            }
+        let mut missed = Missed::nothing();
+        for item in 0..self.items {
+            missed = self.with_missed(missed, txn, item);
         }
         missed
     }
 
-    // Whether a version of an item was missed.
-    fn misses(&self, txn: &Transaction, item: usize) -> bool
-        ensures { (s : State) (x : Running) → Holds K.Kind.state K.Kind.coded K.Kind.rest K.Kind.count R.Rule.answers self.now s → Runs (setup_of K.Kind.coded K.Kind.rest K.Kind.count R.Rule.answers self.now) txn.now x → item < self.now.items → result ≡ nat_lt 0 (length (missed_of s x item)) }
-    {
-        if item >= 256 || !txn.marks[item] {
-            return false;
-        }
-        let nothing = Missed {
-            earliest: None,
-            warped: false,
-        };
-        count_missed(self.slots(item), txn.start, nothing)
-            .earliest
-            .is_some()
-    }
-
-    // The lowest item of which a version was missed, or the count of items.
+    // The lowest item of which a version was missed, or the count of items. A rule refuses only where something was missed, so that there is
+    // one, and a caller of an `Option` would have to make up what this ends with.
     pub(crate) fn lowest_missed(&self, txn: &Transaction) -> u32
-        ensures { (s : State) (x : Running) → Holds K.Kind.state K.Kind.coded K.Kind.rest K.Kind.count R.Rule.answers self.now s → Runs (setup_of K.Kind.coded K.Kind.rest K.Kind.count R.Rule.answers self.now) txn.now x → result ≡ lowest self.now.items (λ item. ltb 0 (length (missed_of s x item))) }
+        ensures { WhileOpen self.now txn.now (λ s x. result ≡ lowest self.now.items (λ item. nat_lt 0 (length (missed_of s x item)))) }
     {
-        let count = self.items.min(256);
-        for item in 0..count {
-            if self.misses(txn, item) {
+        for item in 0..self.items {
+            let missed = self.with_missed(Missed::nothing(), txn, item);
+            if missed.earliest.is_some() {
                 return item as u32;
             }
         }
-        count as u32
+        self.items as u32
+    }
+
+    // What was missed before, and of one item.
+    fn with_missed(&self, before: Missed, txn: &Transaction, item: usize) -> Missed
+        requires { (item < self.now.items) × (item < 256) }
+        ensures { WhileOpen self.now txn.now (λ s x. (vs : List Version) → Tells before vs → Tells result (vs ++ missed_of s x item)) }
+    {
+        if txn.marks[item] {
+            count_missed(self.slots(item), txn.start, before)
+        } else {
+            before
+        }
     }
 
     fn overtaken(&self, txn: &Transaction) -> bool
-        ensures { (s : State) (x : Running) → Holds K.Kind.state K.Kind.coded K.Kind.rest K.Kind.count R.Rule.answers self.now s → Runs (setup_of K.Kind.coded K.Kind.rest K.Kind.count R.Rule.answers self.now) txn.now x → result ≡ overtaken s x }
+        requires { WritesKnown self.now.items self.now.codes txn.now }
+        ensures { WhileOpen self.now txn.now (λ s x. result ≡ overtaken s x) }
     {
-        let mut overtaken = false;
         for w in txn.writes_listed() {
-            if txn.start <= self.stamp_of(w.item) {
-                overtaken = true;
+            if txn.start <= self.stamps[w.item as usize] {
+                return true;
             }
         }
-        overtaken
-    }
-
-    fn stamp_of(&self, item: u32) -> u32
-        ensures { (s : State) → Holds K.Kind.state K.Kind.coded K.Kind.rest K.Kind.count R.Rule.answers self.now s → item < self.now.items → result ≡ (s.items item).stamp }
-    {
-        let at = item as usize;
-        if at < 256 { self.stamps[at] } else { 0 }
+        false
     }
 
     // The least start of an open transaction, the given one counted.
     pub(crate) fn least_start(&self, start: u32) -> u32
-        ensures { (s : State) → Holds K.Kind.state K.Kind.coded K.Kind.rest K.Kind.count R.Rule.answers self.now s → result ≡ least_of start (starts (setup_of K.Kind.coded K.Kind.rest K.Kind.count R.Rule.answers self.now) s) }
+        ensures { (s : State) → Holds self.now s → result ≡ least start (starts (setup_of R.answers self.now) s) }
     {
         let mut least = start;
-        for at in 0..self.seat_count.min(32) {
-            least = least_with(&self.seats[at], least);
+        for seat in &self.seats[0..self.seat_count] {
+            least = least_with(seat, least);
         }
         least
     }
 }
 
 // The lesser of a number and the start of a seat's open transaction, if it has one.
-fn least_with(seat: &Seat, least: u32) -> u32
-    ensures { result ≡ least_of least (starts_in seat.now) }
+fn least_with(seat: &Option<Held>, start: u32) -> u32
+    ensures { result ≡ least start (starts_in seat.now) }
 {
     match seat {
-        Seat::Held {
-            running: Some(txn),
-            ..
-        } => txn.start.min(least),
-        _ => least,
+        Some(
+            Held {
+                running: Some(txn),
+                ..
+            },
+        ) => txn.start.min(start),
+        _ => start,
     }
 }

@@ -18,6 +18,6 @@ mod transaction;
 mod transactions;
 
 pub use board::Board;
-pub use seat::{HeldSeat, Seat};
+pub use seat::{Held, HeldSeat};
 pub use setup::{DEPTH, Unfit, setup_fits};
 pub use transaction::Transaction;

@@ -1,12 +1,16 @@
 // What a call looks up before it does anything.
-ghost use Rattle.std.specs.Prelude.{◌≡◌, ℕ, ◌+◌, ◌*◌, ◌<◌, ◌≤◌, length};
+ghost use Rattle.std.specs.Prelude.{◌≡◌, ℕ, ◌*◌, ◌<◌, ◌≤◌, IfOk, MatchResult, Some};
+ghost use Rattle.calls.specs.declared.refusal.Refusal.TheVariants.{UnknownSeat};
 ghost use Rattle.history.specs.State.{State};
+ghost use Rattle.versions.specs.Slots.{as_codes};
+ghost use Rattle.board.specs.Contents.{setup_of};
+ghost use Rattle.board.specs.Holding.{Holds};
 ghost use Rattle.board.specs.Lists.{slots_of};
-ghost use Rattle.board.specs.Holding.{setup_of, Holds};
 ghost use Rattle.board.specs.Looks.{EmptyAsked, HeldAsked, PassAsked, ItemAsked};
+ghost use Rattle.board.specs.Sound.{SeatKnown};
 
 use crate::board::Board;
-use crate::seat::{HeldSeat, Seat};
+use crate::seat::HeldSeat;
 use calls::Refusal;
 use kinds::Kind;
 use rules::Rule;
@@ -15,7 +19,8 @@ use versions::Version;
 impl<K: Kind, R: Rule> Board<'_, K, R> {
     // The index of a known item.
     pub(crate) fn known_item(&self, item: u32) -> Result<usize, Refusal>
-        ensures { (s : State) → Holds K.Kind.state K.Kind.coded K.Kind.rest K.Kind.count R.Rule.answers self.now s → ItemAsked (setup_of K.Kind.coded K.Kind.rest K.Kind.count R.Rule.answers self.now) item s result }
+        ensures within { IfOk result (λ at. (at ≡ item) × (item < self.now.items) × (item < 256)) }
+        ensures asked { (s : State) → ItemAsked (setup_of R.answers self.now) item s result }
     {
         let at = item as usize;
         if at < self.items {
@@ -25,71 +30,61 @@ impl<K: Kind, R: Rule> Board<'_, K, R> {
         }
     }
 
-    // The index of an empty seat.
-    pub(crate) fn empty_seat(&self, seat: u32) -> Result<usize, Refusal>
-        ensures { (s : State) → Holds K.Kind.state K.Kind.coded K.Kind.rest K.Kind.count R.Rule.answers self.now s → EmptyAsked (setup_of K.Kind.coded K.Kind.rest K.Kind.count R.Rule.answers self.now) seat s result }
+    // The index of a known seat.
+    fn known_seat(&self, seat: u32) -> Result<usize, Refusal>
+        ensures { MatchResult result (λ at. (at ≡ seat) × (seat < self.now.seat_count) × (at < 32)) (λ refusal. (refusal ≡ UnknownSeat) × (self.now.seat_count ≤ seat)) }
     {
         let at = seat as usize;
-        if at >= self.seat_count || at >= 32 {
-            return Err(Refusal::UnknownSeat);
+        if at < self.seat_count {
+            Ok(at)
+        } else {
+            Err(Refusal::UnknownSeat)
         }
+    }
+
+    // The index of an empty seat.
+    pub(crate) fn empty_seat(&self, seat: u32) -> Result<usize, Refusal>
+        ensures within { IfOk result (λ at. at < 32) }
+        ensures asked { (s : State) → Holds self.now s → EmptyAsked (setup_of R.answers self.now) seat s result }
+    {
+        let at = self.known_seat(seat)?;
         match &self.seats[at] {
-            Seat::Empty => Ok(at),
-            Seat::Held { .. } => Err(Refusal::SeatHeld),
+            None => Ok(at),
+            Some(_) => Err(Refusal::SeatHeld),
         }
     }
 
     // The index of a held seat.
     pub(crate) fn taken_seat(&self, seat: u32) -> Result<usize, Refusal>
-        ensures { (s : State) → Holds K.Kind.state K.Kind.coded K.Kind.rest K.Kind.count R.Rule.answers self.now s → HeldAsked (setup_of K.Kind.coded K.Kind.rest K.Kind.count R.Rule.answers self.now) seat s result }
+        ensures within { IfOk result (λ at. at < 32) }
+        ensures asked { (s : State) → Holds self.now s → HeldAsked (setup_of R.answers self.now) seat s result }
     {
-        let at = seat as usize;
-        if at >= self.seat_count || at >= 32 {
-            return Err(Refusal::UnknownSeat);
-        }
+        let at = self.known_seat(seat)?;
         match &self.seats[at] {
-            Seat::Empty => Err(Refusal::SeatEmpty),
-            Seat::Held { .. } => Ok(at),
+            None => Err(Refusal::SeatEmpty),
+            Some(_) => Ok(at),
         }
     }
 
     // The held seat whose pass is shown.
     pub(crate) fn held_seat(&self, seat: u32, pass: u32) -> Result<HeldSeat, Refusal>
-        ensures { (s : State) → Holds K.Kind.state K.Kind.coded K.Kind.rest K.Kind.count R.Rule.answers self.now s → PassAsked (setup_of K.Kind.coded K.Kind.rest K.Kind.count R.Rule.answers self.now) seat pass s result }
+        ensures within { IfOk result (λ h. (h.at < 32) × SeatKnown self.now.items self.now.codes (Some h.held)) }
+        ensures asked { (s : State) → Holds self.now s → PassAsked (setup_of R.answers self.now) seat pass s result }
     {
-        let at = seat as usize;
-        if at >= self.seat_count || at >= 32 {
-            return Err(Refusal::UnknownSeat);
-        }
-        match &self.seats[at] {
-            Seat::Empty => Err(Refusal::SeatEmpty),
-            Seat::Held {
-                pass: own,
-                class,
-                running,
-            } => {
-                if *own == pass {
-                    Ok(HeldSeat {
-                        at,
-                        class: *class,
-                        running: *running,
-                    })
-                } else {
-                    Err(Refusal::WrongPass)
-                }
-            }
+        let at = self.known_seat(seat)?;
+        match self.seats[at] {
+            None => Err(Refusal::SeatEmpty),
+            Some(held) if held.pass == pass => Ok(HeldSeat { at, held }),
+            Some(_) => Err(Refusal::WrongPass),
         }
     }
 
-    // The slots of an item.
+    // The slots of a known item.
     pub(crate) fn slots(&self, item: usize) -> &[Version<K>]
-        ensures { 8 * item + 8 ≤ length self.now.versions.now → result.now ≡ slots_of self.now.versions.now item }
+        requires { item < self.now.items }
+        ensures slots { as_codes K.coded result.now ≡ slots_of self.now.versions item }
+        ensures rest { self.now.rest ≡ K.coded K.REST }
     {
-        let all = &*self.versions;
-        if item < all.len() / 8 {
-            &all[8 * item..8 * item + 8]
-        } else {
-            &all[0..0]
-        }
+        &self.versions[8 * item..8 * item + 8]
     }
 }

@@ -2,20 +2,17 @@
 use crate::transaction::Transaction;
 use calls::Class;
 
+// What is kept of a held seat.
 #[derive(Clone, Copy)]
-pub enum Seat {
-    Empty,
-    Held {
-        pass: u32,
-        class: Class,
-        running: Option<Transaction>,
-    },
+pub struct Held {
+    pub(crate) pass: u32,
+    pub(crate) class: Class,
+    pub(crate) running: Option<Transaction>,
 }
 
-// A held seat whose pass was shown.
+// A held seat that a look-up found, and its index.
 #[derive(Clone, Copy)]
 pub struct HeldSeat {
     pub(crate) at: usize,
-    pub(crate) class: Class,
-    pub(crate) running: Option<Transaction>,
+    pub(crate) held: Held,
 }

@@ -1,10 +1,10 @@
 // A new board over lent memory.
 ghost use Rattle.std.specs.Prelude.{◌≡◌, ℕ, ◌*◌, ◌<◌, ◌≤◌, true, false, ◌&&◌, length, MatchResult};
+ghost use Rattle.board.specs.Contents.{setup_for};
 ghost use Rattle.board.specs.Holding.{Opened};
 ghost use Rattle.board.specs.Sizes.{fits};
 
 use crate::board::Board;
-use crate::seat::Seat;
 use kinds::Kind;
 use rules::Rule;
 use versions::{Version, lay_at_rest};
@@ -33,7 +33,7 @@ impl<'m, K: Kind, R: Rule + Drop> Board<'m, K, R> {
         rule: R,
         memory: &'m mut [Version<K>],
     ) -> Result<Board<'m, K, R>, Unfit<'m, K>>
-        ensures { MatchResult result (λ board. (fits items seats (length memory.old) ≡ true) × Opened K.Kind.state K.Kind.coded K.Kind.rest K.Kind.count R.Rule.answers items seats rule board) (λ unfit. (fits items seats (length memory.old) ≡ false) × (unfit.memory.now ≡ memory.old)) }
+        ensures { MatchResult result (λ board. (fits items seats (length memory.old) ≡ true) × Opened R.answers (setup_for K.coded K.REST K.COUNT R.answers items seats rule) board) (λ unfit. (fits items seats (length memory.old) ≡ false) × (unfit.memory.now ≡ memory.old)) }
     {
         if !setup_fits(items, seats, memory.len()) {
             return Err(Unfit { memory });
@@ -47,7 +47,7 @@ impl<'m, K: Kind, R: Rule + Drop> Board<'m, K, R> {
             clock: 1,
             passes: 0,
             stamps: [0; 256],
-            seats: [Seat::Empty; 32],
+            seats: [None; 32],
             rule,
             versions,
         })

@@ -1,5 +1,4 @@
 // What anybody may ask.
-ghost use Rattle.std.specs.Prelude.{◌≡◌};
 ghost use Rattle.calls.specs.declared.call.Call.TheVariants.{Show};
 ghost use Rattle.board.specs.Holding.{Follows};
 
@@ -12,7 +11,7 @@ use versions::head_code;
 impl<K: Kind, R: Rule> Board<'_, K, R> {
     // The code of an item's newest version.
     pub(crate) fn show(&self, item: u32) -> Result<Reply, Refusal>
-        ensures { Follows K.Kind.state K.Kind.coded K.Kind.rest K.Kind.count R.Rule.answers self.now self.now (Show item) result }
+        ensures { Follows R.answers self.now self.now (Show item) result }
     {
         let at = self.known_item(item)?;
         Ok(Reply::Code(head_code(self.slots(at))))

@@ -2,9 +2,12 @@
 ghost use Rattle.std.specs.Prelude.{◌≡◌, ℕ, ◌+◌, ◌<◌, false};
 ghost use Rattle.history.specs.State.{State, Transaction as Running};
 ghost use Rattle.history.specs.Steps.{is_full, least_start};
-ghost use Rattle.board.specs.Holding.{setup_of, Runs, Holds};
-ghost use Rattle.board.specs.Memory.{OnlyMemory, StoredAt, StoredAll};
+ghost use Rattle.versions.specs.Slots.{as_code};
+ghost use Rattle.board.specs.Contents.{setup_of, with_versions};
+ghost use Rattle.board.specs.Holding.{WhileOpen};
+ghost use Rattle.board.specs.Memory.{StoredAt, StoredAll};
 ghost use Rattle.board.specs.Room.{Reaches};
+ghost use Rattle.board.specs.Sound.{WritesKnown};
 
 use crate::board::Board;
 use crate::transaction::Transaction;
@@ -15,9 +18,11 @@ use versions::{Version, store};
 impl<K: Kind, R: Rule> Board<'_, K, R> {
     // Stores what a granted transaction has listed.
     pub(crate) fn store_all(&mut self, txn: &Transaction, least: u32, natural: u32, place: u32)
-        ensures only { OnlyMemory self.old self.new }
-        ensures lists { (s : State) (x : Running) → Holds K.Kind.state K.Kind.coded K.Kind.rest K.Kind.count R.Rule.answers self.old s → Runs (setup_of K.Kind.coded K.Kind.rest K.Kind.count R.Rule.answers self.old) txn.now x → Reaches least s → least ≡ least_start (setup_of K.Kind.coded K.Kind.rest K.Kind.count R.Rule.answers self.old) s x → natural ≡ s.clock + 1 → ((item : ℕ) → item < self.old.items → is_full (setup_of K.Kind.coded K.Kind.rest K.Kind.count R.Rule.answers self.old) s x place item ≡ false) → StoredAll K.Kind.state K.Kind.coded (setup_of K.Kind.coded K.Kind.rest K.Kind.count R.Rule.answers self.old) s x place x.writes self.new.versions.now }
+        requires { WritesKnown self.old.items self.old.codes txn.now }
+        ensures only { self.new ≡ with_versions self.old self.new.versions }
+        ensures lists { WhileOpen self.old txn.now (λ s x. Reaches least s → least ≡ least_start (setup_of R.answers self.old) s x → natural ≡ s.clock + 1 → ((item : ℕ) → item < self.old.items → is_full (setup_of R.answers self.old) s x place item ≡ false) → StoredAll (setup_of R.answers self.old) s x place x.writes self.new.versions) }
     {
+        self.is_lawful();
         for w in txn.writes_listed() {
             let state = K::from_code(w.code);
             let new = Version {
@@ -31,10 +36,10 @@ impl<K: Kind, R: Rule> Board<'_, K, R> {
 
     // Puts a version into an item's list.
     fn store_one(&mut self, item: usize, new: Version<K>, least: u32)
-        ensures { StoredAt K.Kind.state K.Kind.coded K.Kind.rest self.old self.new item new least }
+        requires known { item < self.old.items }
+        requires state { K.state new.state }
+        ensures { StoredAt self.old self.new item (as_code K.coded new) least }
     {
-        if item < self.versions.len() / 8 {
-            store(&mut self.versions[8 * item..8 * item + 8], new, least);
-        }
+        store(&mut self.versions[8 * item..8 * item + 8], new, least);
     }
 }

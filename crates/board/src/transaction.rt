@@ -1,10 +1,10 @@
 // An open transaction.
-ghost use Rattle.std.specs.Prelude.{◌≡◌, ℕ, ◌+◌, ◌-◌, ◌<◌, ◌≤◌, true, false, ◌||◌, length, replicate, is_some, if◌then◌else◌, nat_lt, slice_set};
+ghost use Rattle.std.specs.Prelude.{◌≡◌, ℕ, ◌<◌, ◌≤◌, true, false, ◌||◌, length, position, replicate, is_some, is_ok, Err, OnErr, if◌then◌else◌, nat_lt};
+ghost use Rattle.calls.specs.declared.refusal.Refusal.TheVariants.{WriteListFull};
 ghost use Rattle.history.specs.Steps.{listed, list_code};
-ghost use Rattle.versions.specs.Slots.{first_index};
-ghost use Rattle.board.specs.Lists.{write_list, is_for, with_marks};
+ghost use Rattle.board.specs.Lists.{write_list, is_for, Marked};
 
-use calls::{Mode, Write};
+use calls::{Mode, Refusal, Write};
 
 // The most items that a transaction lists.
 pub const WRITES: usize = 8;
@@ -14,6 +14,8 @@ pub struct Transaction {
     pub(crate) mode: Mode,
     pub(crate) start: u32,
     pub(crate) marks: [bool; 256],
+    // The first `count` are listed. A board takes no memory from a heap and uses no crate beside this repository's, and a look-up hands out a
+    // copy of all this: so the list lies in a table, and no invariant bounds its count, since a copy would have to give its fields back.
     pub(crate) writes: [Write; 8],
     pub(crate) count: usize,
 }
@@ -49,54 +51,46 @@ impl Transaction {
         ensures { result ≡ listed item (write_list self.now) }
     {
         let writes = self.writes_listed();
-        let at = find_item(writes, item);
-        if at < writes.len() {
-            Some(writes[at].code)
-        } else {
-            None
-        }
+        find_item(writes, item).map(|at| writes[at].code)
     }
 
     // Marks an item as read.
     pub(crate) fn mark(&mut self, item: usize)
-        ensures { item < 256 → self.new ≡ with_marks self.old (slice_set self.old.marks item true) }
+        requires { item < 256 }
+        ensures { Marked self.old self.new item }
     {
-        if item < 256 {
-            self.marks[item] = true;
-        }
+        self.marks[item] = true;
     }
 
-    // Lists a code, or replaces the one listed; false where eight other items are.
-    pub(crate) fn list(&mut self, item: u32, code: u32) -> bool
-        ensures room { result ≡ (is_some (listed item (write_list self.old)) || nat_lt (length (write_list self.old)) 8) }
-        ensures listed { write_list self.new ≡ (if result then list_code item code (write_list self.old) else write_list self.old) }
+    // Lists a code, or replaces the one listed. Where eight other items are listed, nothing changes.
+    pub(crate) fn list(&mut self, item: u32, code: u32) -> Result<(), Refusal>
+        ensures room { is_ok result ≡ (is_some (listed item (write_list self.old)) || nat_lt (length (write_list self.old)) 8) }
+        ensures full { OnErr result (result ≡ Err WriteListFull) }
+        ensures listed { write_list self.new ≡ (if is_ok result then list_code item code (write_list self.old) else write_list self.old) }
         ensures mode { self.new.mode ≡ self.old.mode }
         ensures start { self.new.start ≡ self.old.start }
         ensures marks { self.new.marks ≡ self.old.marks }
     {
         let writes = self.writes_listed();
         let count = writes.len();
-        let at = find_item(writes, item);
-        if at >= WRITES {
-            return false;
+        match find_item(writes, item) {
+            Some(at) => {
+                self.writes[at] = Write { item, code };
+                Ok(())
+            }
+            None if count < WRITES => {
+                self.writes[count] = Write { item, code };
+                self.count = count + 1;
+                Ok(())
+            }
+            None => Err(Refusal::WriteListFull),
         }
-        self.writes[at] = Write { item, code };
-        if at == count {
-            self.count = count + 1;
-        }
-        true
     }
 }
 
-// Where an item stands in a write list, or its length.
-fn find_item(writes: &[Write], item: u32) -> usize
-    ensures { result ≡ first_index (is_for item) writes.now }
+// Where an item stands in a write list.
+fn find_item(writes: &[Write], item: u32) -> Option<usize>
+    ensures { result ≡ position (is_for item) writes.now }
 {
-    let mut at = 0;
-    loop {
-        if at >= writes.len() || writes[at].item == item {
-            break at;
-        }
-        at += 1;
-    }
+    writes.iter().position(|w| w.item == item)
 }

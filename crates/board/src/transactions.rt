@@ -1,9 +1,9 @@
 // Transactions that begin and end without a grant.
-ghost use Rattle.std.specs.Prelude.{◌≡◌};
 ghost use Rattle.calls.specs.declared.call.Call.TheVariants.{Begin, Abandon};
 ghost use Rattle.board.specs.Holding.{Follows};
 
 use crate::board::Board;
+use crate::seat::HeldSeat;
 use crate::transaction::Transaction;
 use calls::{Mode, Refusal, Reply};
 use kinds::Kind;
@@ -12,26 +12,26 @@ use rules::Rule;
 impl<K: Kind, R: Rule> Board<'_, K, R> {
     // Opens a transaction, which starts at the clock.
     pub(crate) fn begin(&mut self, seat: u32, pass: u32, mode: Mode) -> Result<Reply, Refusal>
-        ensures { Follows K.Kind.state K.Kind.coded K.Kind.rest K.Kind.count R.Rule.answers self.old self.new (Begin seat pass mode) result }
+        ensures { Follows R.answers self.old self.new (Begin seat pass mode) result }
     {
-        let held = self.held_seat(seat, pass)?;
+        let HeldSeat { at, held } = self.held_seat(seat, pass)?;
         if held.running.is_some() {
             return Err(Refusal::AlreadyBegun);
         }
         let start = self.clock;
-        self.set_running(held.at, Some(Transaction::new(mode, start)));
+        self.set_running(at, Some(Transaction::new(mode, start)));
         Ok(Reply::Start(start))
     }
 
     // Drops the open transaction.
     pub(crate) fn abandon(&mut self, seat: u32, pass: u32) -> Result<Reply, Refusal>
-        ensures { Follows K.Kind.state K.Kind.coded K.Kind.rest K.Kind.count R.Rule.answers self.old self.new (Abandon seat pass) result }
+        ensures { Follows R.answers self.old self.new (Abandon seat pass) result }
     {
-        let held = self.held_seat(seat, pass)?;
+        let HeldSeat { at, held } = self.held_seat(seat, pass)?;
         if held.running.is_none() {
             return Err(Refusal::NotBegun);
         }
-        self.set_running(held.at, None);
+        self.set_running(at, None);
         Ok(Reply::Done)
     }
 }

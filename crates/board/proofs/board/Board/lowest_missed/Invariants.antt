@@ -1,11 +1,8 @@
 use Rattle.std.proofs.Common.{◌≡◌, ℕ, ◌<◌, false, ltb, length}
 use Rattle.history.specs.State.{State, Transaction as Running}
 use Rattle.history.specs.Steps.{missed_of}
-use Rattle.board.specs.Holding.{setup_of, Runs, Holds}
+use Rattle.board.specs.Holding.{Runs, Holds}
 use Rattle.board.proofs.board.Board.lowest_missed.Given as goal
 
 abbrev pub invariant-loop-item : goal.invariant-loop-item
-invariant-loop-item g l =
-    (s : State) (x : Running) → Holds g.K.Kind.state g.K.Kind.coded g.K.Kind.rest g.K.Kind.count g.R.Rule.answers l.self s
-    → Runs (setup_of g.K.Kind.coded g.K.Kind.rest g.K.Kind.count g.R.Rule.answers l.self) l.txn x
-    → (k : ℕ) → k < l.item → ltb 0 (length (missed_of s x k)) ≡ false
+invariant-loop-item g l = (s : State) (x : Running) → Holds l.self s → Runs l.self.items l.txn x → (k : ℕ) → k < l.item → ltb 0 (length (missed_of s x k)) ≡ false
