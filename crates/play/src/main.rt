@@ -2,15 +2,12 @@
 #![tactic(auto)]
 
 use player::play_script;
-use script::SCRIPT_LIMIT;
+use script::read_script;
 use std::io;
-use std::io::{Read, Write};
+use std::io::Write;
 
 fn main(rt: HostRuntime) -> io::Result<()> {
-    let mut script = Vec::new(rt.alloc());
-    rt.stdin()
-        .take(SCRIPT_LIMIT as u64 + 1)
-        .read_to_end(&mut script)?;
+    let script = read_script(rt.alloc(), rt.stdin())?;
     let answers = play_script(rt.alloc(), &script)?;
     rt.stdout().write_all(&answers)
 }

@@ -1,44 +1,43 @@
 -- Lines that are played one after the other.
-use Rattle.std.proofs.Common.{◌≡◌, ℕ, ◌+◌, ◌<◌, ◌≤◌, min, List, [], ◌∷◌, ◌++◌, Option, sym, refl, ap, ◌∙◌, subst, append-nil}
+use Rattle.std.proofs.Common.{◌≡◌, ℕ, ◌+◌, min, List, [], ◌∷◌, ◌++◌, Option, sym, refl, ap, ◌∙◌, subst, append-nil}
 use Rattle.std.proofs.lemmas.List.{append_assoc}
 use Rattle.rules.specs.declared.findings.Findings.{Findings}
-use Rattle.rules.specs.Laws.{FourLaws}
 use Rattle.history.specs.State.{State}
 use Rattle.history.specs.Log.{History, Leads}
+use Rattle.history.specs.Promise.{Lawful}
 use Rattle.history.proofs.PromiseKept.{every_history}
 use Rattle.script.specs.Answers.{answer}
-use Rattle.board.specs.declared.board.Board.{Board}
-use Rattle.board.specs.Holding.{setup_of, Holds}
-use Rattle.board.proofs.Keeping.{lawful_setup}
+use Rattle.board.specs.Contents.{Contents, setup_of}
+use Rattle.board.specs.Holding.{Holds}
 use Rattle.player.specs.Lines.{Outcome, Goes, text_of, LineTold, LinesAnswered}
 
-module _ {S R : Type 0} (state : S → Type 0) (coded : S → ℕ) (rest : S) (count : ℕ) (answers : R → Findings → Option ℕ) where
+module _ {R : Type 0} (answers : R → Findings → Option ℕ) where
   -- some lines have been played, and others, from line n on, are to come: whatever these are told, it completes what the first were told
-  pub record Underway (before now : Board S R) (h : History) (lines to_come : List (List ℕ)) (n : ℕ) (text : List ℕ) : Type 0 where
-    pub same_setup : setup_of coded rest count answers now ≡ setup_of coded rest count answers before
+  pub record Underway (before now : Contents R) (h : History) (lines to_come : List (List ℕ)) (n : ℕ) (text : List ℕ) : Type 0 where
+    pub same_setup : setup_of answers now ≡ setup_of answers before
     pub made : History
     pub state_left : State
-    pub leads : Leads (setup_of coded rest count answers before) made state_left
-    pub holds : Holds state coded rest count answers now state_left
+    pub leads : Leads (setup_of answers before) made state_left
+    pub holds : Holds now state_left
     pub completes : (os : List Outcome) (after : History) → Goes made to_come os after → (all : List Outcome) × Goes h lines all after × (text ++ text_of n os ≡ text_of 2 all)
 
-  abbrev pub Reached : Board S R → Board S R → List (List ℕ) → List (List ℕ) → ℕ → List ℕ → Type 0
-  Reached before now lines to_come n text = (h : History) (s : State) → Leads (setup_of coded rest count answers before) h s → Holds state coded rest count answers before s → Underway before now h lines to_come n text
+  abbrev pub Reached : Contents R → Contents R → List (List ℕ) → List (List ℕ) → ℕ → List ℕ → Type 0
+  Reached before now lines to_come n text = (h : History) (s : State) → Leads (setup_of answers before) h s → Holds before s → Underway before now h lines to_come n text
 
   -- no line has been played
-  pub at_start : (board : Board S R) (lines : List (List ℕ)) (text : List ℕ) → text ≡ [] → Reached board board lines lines 2 text
-  at_start board lines text none h s leads k = record {
+  pub at_start : (board : Contents R) (lines to_come : List (List ℕ)) (text : List ℕ) → to_come ≡ lines → text ≡ [] → Reached board board lines to_come 2 text
+  at_start board lines to_come text all none h s leads k = record {
     same_setup = refl;
     made = h;
     state_left = s;
     leads = leads;
     holds = k;
-    completes = λ os after goes. (os, goes, ap (λ t. t ++ text_of 2 os) none);
+    completes = λ os after goes. (os, subst (λ ls. Goes h ls os after) all goes, ap (λ t. t ++ text_of 2 os) none);
   }
 
   -- one line more is played
-  pub one_line_more : (before now after : Board S R) (lines to_come left : List (List ℕ)) (n m : ℕ) (line text more : List ℕ) (o : Outcome)
-      → to_come ≡ line ∷ left → m ≡ min (n + 1) 9999999 → more ≡ text ++ answer n o → LineTold state coded rest count answers now after line o
+  pub one_line_more : (before now after : Contents R) (lines to_come left : List (List ℕ)) (n m : ℕ) (line text more : List ℕ) (o : Outcome)
+      → to_come ≡ line ∷ left → m ≡ min (n + 1) 9999999 → more ≡ text ++ answer n o → LineTold answers now after line o
       → Reached before now lines to_come n text → Reached before after lines left m more
   one_line_more before now after lines to_come left n m line text more o is next added told reached h s leads k =
       let u = reached h s leads k in
@@ -56,9 +55,9 @@ module _ {S R : Type 0} (state : S → Type 0) (coded : S → ℕ) (rest : S) (c
       }
 
   -- no line is to come
-  pub at_end : (before now : Board S R) (lines to_come : List (List ℕ)) (n : ℕ) (text : List ℕ) → 2 ≤ count → coded rest < count → FourLaws (answers before.rule)
-      → to_come ≡ [] → Reached before now lines to_come n text → LinesAnswered state coded rest count answers before now lines text
-  at_end before now lines to_come n text two resting laws none reached h s leads k =
+  pub at_end : (before now : Contents R) (lines to_come : List (List ℕ)) (n : ℕ) (text : List ℕ) → Lawful (setup_of answers before)
+      → to_come ≡ [] → Reached before now lines to_come n text → LinesAnswered answers before now lines text
+  at_end before now lines to_come n text lawful none reached h s leads k =
       let u = reached h s leads k in
       let whole = u.completes [] u.made (subst (λ ls. Goes u.made ls [] u.made) (sym none) refl) in
       record {
@@ -70,5 +69,5 @@ module _ {S R : Type 0} (state : S → Type 0) (coded : S → ℕ) (rest : S) (c
         state_left = u.state_left;
         leads = u.leads;
         holds = u.holds;
-        promise = every_history (setup_of coded rest count answers before) (lawful_setup state coded rest count answers before s two resting laws k) u.made u.state_left u.leads;
+        promise = every_history (setup_of answers before) lawful u.made u.state_left u.leads;
       }

@@ -10,13 +10,12 @@ use script::{read_command, write_answer};
 
 // What the board says to a line.
 fn outcome_of<K: Kind, R: Rule>(board: &mut Board<'_, K, R>, line: &[u8]) -> Result<Reply, Fault>
-    ensures { LineTold K.Kind.state K.Kind.coded K.Kind.rest K.Kind.count R.Rule.answers board.old board.new line.now result }
+    ensures { LineTold R.answers board.old board.new line.now result }
 {
+    board.is_lawful();
     let call = read_command(line)?;
-    match board.call(call) {
-        Ok(reply) => Ok(reply),
-        Err(refusal) => Err(Fault::Refused(refusal)),
-    }
+    let reply = board.call(call)?;
+    Ok(reply)
 }
 
 // Plays a line on a board. The answer to it goes to the front of `out`, zeros after it, and its length is given back.
@@ -26,7 +25,7 @@ pub fn play_line<K: Kind, R: Rule>(
     line: &[u8],
     out: &mut [u8; 32],
 ) -> usize
-    ensures { LineAnswered K.Kind.state K.Kind.coded K.Kind.rest K.Kind.count R.Rule.answers board.old board.new number line.now out.new result }
+    ensures { LineAnswered R.answers board.old board.new number line.now out.new result }
 {
     let outcome = outcome_of(board, line);
     write_answer(out, number, &outcome)

@@ -14,15 +14,9 @@ pub const SLOTS: usize = 256 * DEPTH;
 // As many slots as the largest board needs, all at rest.
 pub fn slots<K: Kind>(heap: Global) -> Result<Vec<Version<K>>, AllocError>
     ensures long { IfOk result (λ v. vec_len v ≡ slots_lent) }
-    ensures resting { IfOk result (λ v. v.items ≡ replicate slots_lent (rest_version K.Kind.rest)) }
+    ensures resting { IfOk result (λ v. v.items ≡ replicate slots_lent (rest_version K.REST)) }
 {
-    let mut slots = Vec::new(heap);
-    while slots.len() < SLOTS {
-        slots.push(Version {
-            state: K::at_rest(),
-            natural: 0,
-            place: 0,
-        })?;
-    }
-    Ok(slots)
+    let rest = Version::at_rest();
+    // `vec![in heap; rest; SLOTS]` says only that each slot is a clone, and no law says that a clone of a state is that state.
+    (0..SLOTS).map(|_| rest).collect(heap)
 }

@@ -1,10 +1,10 @@
-use Rattle.std.proofs.Common.{length, vec_items}
-use Rattle.script.specs.Lines.{to_come}
+use Rattle.std.proofs.Common.{vec_items}
 use Rattle.player.proofs.Playing.{Reached}
 use Rattle.player.proofs.scripts.play_commands.Given as goal
 
 abbrev pub invariant-loop-line : goal.invariant-loop-line
-invariant-loop-line g l = Reached g.K.Kind.state g.K.Kind.coded g.K.Kind.rest g.K.Kind.count g.R.Rule.answers l.initial.board l.board (to_come l.initial.lines) (to_come l.lines) l.number (vec_items l.answers)
-
-abbrev pub decreases-loop-line : goal.decreases-loop-line
-decreases-loop-line g l = length (to_come l.lines)
+invariant-loop-line g l = record {
+  can_next : (goal.iterator-loop-line g).can_next l.line-iterator;
+  is_finite : (goal.iterator-loop-line g).is_finite l.line-iterator;
+  reached : Reached g.R.Rule.answers l.initial.board l.board l.fn.lines l.line-iterator l.number (vec_items l.answers);
+}
