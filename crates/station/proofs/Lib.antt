@@ -1,3 +1,2 @@
 pub mod Leading
 pub mod Answering
-pub mod Fitting

@@ -1,16 +1,10 @@
 -- What an answer tells.
-use Rattle.std.specs.Prelude.{Ok, Err, Result}
-use Rattle.calls.specs.Numbers.{first, second, number, named, fault_number, fault_named}
+use Rattle.std.specs.Prelude.{Result}
 use Rattle.calls.specs.declared.fault.Fault.{Fault}
 use Rattle.calls.specs.declared.reply.Reply.{Reply}
-use Rattle.calls.specs.declared.refusal.Refusal.{Refusal}
+use Rattle.script.specs.Answers.{refusal_of, first_of, second_of}
 use Rattle.station.specs.declared.answer.Answer.{Answer}
 
--- of a board's answer to a call
-abbrev pub told : Result Reply Refusal → Answer
-told (Ok reply) = record { refusal = 0; first = first reply; second = second reply }
-told (Err refusal) = record { refusal = number refusal; first = named refusal; second = 0 }
-
--- of a request that stands for no call
-abbrev pub faulty : Fault → Answer
-faulty fault = record { refusal = fault_number fault; first = fault_named fault; second = 0 }
+-- the reply to a request's call, or what is wrong: with the request, or the board's refusal
+abbrev pub answer_of : Result Reply Fault → Answer
+answer_of outcome = record { refusal = refusal_of outcome; first = first_of outcome; second = second_of outcome }

@@ -1,39 +1,40 @@
 -- What a request stands for.
-use Rattle.std.specs.Prelude.{ℕ, cond, Ok, Err, Result, ◌==◌}
+use Rattle.std.specs.Prelude.{ℕ, [], ◌∷◌, Ok, Result, slice_get}
+use Rattle.std.specs.Option.{ok_or}
 use Rattle.calls.specs.declared.call.Class.{Class}
 use Rattle.calls.specs.declared.call.Class.TheVariants.{Member, Guest}
 use Rattle.calls.specs.declared.call.Mode.{Mode}
 use Rattle.calls.specs.declared.call.Mode.TheVariants.{Reader, Update}
 use Rattle.calls.specs.declared.call.Call.{Call}
-use Rattle.calls.specs.declared.call.Call.TheVariants.{Admit, Revoke, Begin, Read, Write as Writing, Commit, Abandon, Show}
+use Rattle.calls.specs.declared.call.Call.TheVariants as call
 use Rattle.calls.specs.declared.fault.Fault.{Fault}
 use Rattle.calls.specs.declared.fault.Fault.TheVariants.{WrongPart}
+use Rattle.script.specs.Reading.{then}
+use Rattle.script.specs.declared.words.Op.{Op}
+use Rattle.script.specs.declared.words.Op.TheVariants.{Admit, Revoke, Begin, Read, Write, Commit, Abandon, Show}
 use Rattle.station.specs.declared.request.Request.{Request}
 
--- field 4 is wrong where it should name a class or a mode
+-- the calls are numbered from 0; field 0 is wrong where it numbers none
+abbrev pub op_of : ℕ → Result Op Fault
+op_of n = ok_or (slice_get (Admit ∷ Revoke ∷ Begin ∷ Read ∷ Write ∷ Commit ∷ Abandon ∷ Show ∷ []) n) (WrongPart 0)
+
+-- so are the classes and the modes; field 4 is wrong where it should number one and does not
 abbrev pub class_of : ℕ → Result Class Fault
-class_of n = cond (n == 0) (Ok Member) (cond (n == 1) (Ok Guest) (Err (WrongPart 4)))
+class_of n = ok_or (slice_get (Member ∷ Guest ∷ []) n) (WrongPart 4)
 
 abbrev pub mode_of : ℕ → Result Mode Fault
-mode_of n = cond (n == 0) (Ok Reader) (cond (n == 1) (Ok Update) (Err (WrongPart 4)))
+mode_of n = ok_or (slice_get (Reader ∷ Update ∷ []) n) (WrongPart 4)
 
-abbrev pub admission : ℕ → Result Class Fault → Result Call Fault
-admission seat (Ok class) = Ok (Admit seat class)
-admission seat (Err fault) = Err fault
+-- what the request says of a call
+abbrev pub call_as : Request → Op → Result Call Fault
+call_as q Admit = then (class_of q.value) (λ class. Ok (call.Admit q.seat class))
+call_as q Revoke = Ok (call.Revoke q.seat)
+call_as q Begin = then (mode_of q.value) (λ mode. Ok (call.Begin q.seat q.pass mode))
+call_as q Read = Ok (call.Read q.seat q.pass q.item)
+call_as q Write = Ok (call.Write q.seat q.pass q.item q.value)
+call_as q Commit = Ok (call.Commit q.seat q.pass)
+call_as q Abandon = Ok (call.Abandon q.seat q.pass)
+call_as q Show = Ok (call.Show q.item)
 
-abbrev pub beginning : ℕ → ℕ → Result Mode Fault → Result Call Fault
-beginning seat pass (Ok mode) = Ok (Begin seat pass mode)
-beginning seat pass (Err fault) = Err fault
-
--- field 0 is wrong where it names no call
 abbrev pub call_of : Request → Result Call Fault
-call_of q =
-    cond (q.op == 0) (admission q.seat (class_of q.value))
-    (cond (q.op == 1) (Ok (Revoke q.seat))
-    (cond (q.op == 2) (beginning q.seat q.pass (mode_of q.value))
-    (cond (q.op == 3) (Ok (Read q.seat q.pass q.item))
-    (cond (q.op == 4) (Ok (Writing q.seat q.pass q.item q.value))
-    (cond (q.op == 5) (Ok (Commit q.seat q.pass))
-    (cond (q.op == 6) (Ok (Abandon q.seat q.pass))
-    (cond (q.op == 7) (Ok (Show q.item))
-    (Err (WrongPart 0)))))))))
+call_of q = then (op_of q.op) (call_as q)

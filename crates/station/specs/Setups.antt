@@ -1,5 +1,5 @@
 -- The board that is asked for.
-use Rattle.std.specs.Prelude.{ℕ, cond, Some, None, Option, ◌==◌}
+use Rattle.std.specs.Prelude.{ℕ, cond, [], ◌∷◌, Some, None, Option, slice_get}
 use Rattle.calls.specs.declared.header.BoardKind.{BoardKind}
 use Rattle.calls.specs.declared.header.BoardKind.TheVariants.{Drive, Switch}
 use Rattle.calls.specs.declared.header.RuleName.{RuleName}
@@ -8,11 +8,12 @@ use Rattle.calls.specs.declared.header.Header.{Header}
 use Rattle.board.specs.Sizes.{fits}
 use Rattle.player.specs.Scripts.{slots_lent}
 
+-- the kinds and the rules are numbered from 0
 abbrev pub kind_of : ℕ → Option BoardKind
-kind_of n = cond (n == 0) (Some Drive) (cond (n == 1) (Some Switch) None)
+kind_of n = slice_get (Drive ∷ Switch ∷ []) n
 
 abbrev pub rule_of : ℕ → Option RuleName
-rule_of n = cond (n == 0) (Some Now) (cond (n == 1) (Some Warp) (cond (n == 2) (Some HomeNow) (cond (n == 3) (Some HomeWarp) None)))
+rule_of n = slice_get (Now ∷ Warp ∷ HomeNow ∷ HomeWarp ∷ []) n
 
 abbrev pub header_for : Option BoardKind → Option RuleName → ℕ → ℕ → Option Header
 header_for None rule items seats = None

@@ -1,12 +1,13 @@
 // An answer as C reads it.
 ghost use Rattle.std.specs.Prelude.{◌≡◌};
-ghost use Rattle.station.specs.Answers.{told, faulty};
+ghost use Rattle.station.specs.Answers.{answer_of};
 
-use calls::{Fault, Refusal, Reply};
+use calls::{Fault, Reply};
+use script::answer_numbers;
 
 // The numbers of an answer line, without the line's own.
 #[repr(C)]
-#[derive(Clone, Copy)]
+#[derive(Clone, Copy, Debug, PartialEq, Eq)]
 pub struct Answer {
     // 0 where the request was accepted.
     pub refusal: u32,
@@ -14,33 +15,15 @@ pub struct Answer {
     pub second: u32,
 }
 
-impl Answer {
-    // What a board's answer tells.
-    pub(crate) fn of(outcome: Result<Reply, Refusal>) -> Answer
-        ensures { result ≡ told outcome }
-    {
-        match outcome {
-            Ok(reply) => Answer {
-                refusal: 0,
-                first: reply.first(),
-                second: reply.second(),
-            },
-            Err(refusal) => Answer {
-                refusal: refusal.number(),
-                first: refusal.named(),
-                second: 0,
-            },
-        }
-    }
+impl From<Result<Reply, Fault>> for Answer {
+    ghost from_gives = { λ outcome answer. answer ≡ answer_of outcome };
 
-    // What is told of a request that stands for no call.
-    pub(crate) fn of_fault(fault: Fault) -> Answer
-        ensures { result ≡ faulty fault }
-    {
+    fn from(outcome: Result<Reply, Fault>) -> Answer {
+        let (refusal, first, second) = answer_numbers(&outcome);
         Answer {
-            refusal: fault.number(),
-            first: fault.named(),
-            second: 0,
+            refusal,
+            first,
+            second,
         }
     }
 }

@@ -2,10 +2,12 @@
 #![tactic(auto)]
 
 mod answer;
+mod numbers;
 mod request;
 mod run;
 mod setup;
 mod sizes;
+mod status;
 #[cfg(test)]
 mod tests;
 

@@ -1,12 +1,14 @@
 // A request as C writes it.
 ghost use Rattle.std.specs.Prelude.{◌≡◌};
-ghost use Rattle.station.specs.Requests.{class_of, mode_of, call_of};
+ghost use Rattle.station.specs.Requests.{call_of};
 
-use calls::{Call, Class, Fault, Mode};
+use crate::numbers::numbered;
+use calls::{Call, Fault};
+use script::Op;
 
 // A call by numbers. What a call has no use for is not looked at.
 #[repr(C)]
-#[derive(Clone, Copy)]
+#[derive(Clone, Copy, Debug, PartialEq, Eq)]
 pub struct Request {
     // Admit 0, revoke 1, begin 2, read 3, write 4, commit 5, abandon 6, show 7.
     pub op: u32,
@@ -17,60 +19,41 @@ pub struct Request {
     pub value: u32,
 }
 
-impl Request {
-    // The call that it stands for, or the field that is wrong, counted from 0.
-    pub(crate) fn as_call(&self) -> Result<Call, Fault>
-        ensures { result ≡ call_of self.now }
-    {
+// The call that it stands for, or the field that is wrong, counted from 0.
+impl TryFrom<Request> for Call {
+    type Error = Fault;
+
+    ghost try_from_gives = { λ request call. call ≡ call_of request };
+
+    fn try_from(request: Request) -> Result<Call, Fault> {
         let Request {
             op,
             seat,
             pass,
             item,
             value,
-        } = *self;
-        match op {
-            0 => Ok(Call::Admit {
+        } = request;
+        match numbered(op).ok_or(Fault::WrongPart { at: 0 })? {
+            Op::Admit => Ok(Call::Admit {
                 seat,
-                class: class(value)?,
+                class: numbered(value).ok_or(Fault::WrongPart { at: 4 })?,
             }),
-            1 => Ok(Call::Revoke { seat }),
-            2 => Ok(Call::Begin {
+            Op::Revoke => Ok(Call::Revoke { seat }),
+            Op::Begin => Ok(Call::Begin {
                 seat,
                 pass,
-                mode: mode(value)?,
+                mode: numbered(value).ok_or(Fault::WrongPart { at: 4 })?,
             }),
-            3 => Ok(Call::Read { seat, pass, item }),
-            4 => Ok(Call::Write {
+            Op::Read => Ok(Call::Read { seat, pass, item }),
+            Op::Write => Ok(Call::Write {
                 seat,
                 pass,
                 item,
                 code: value,
             }),
-            5 => Ok(Call::Commit { seat, pass }),
-            6 => Ok(Call::Abandon { seat, pass }),
-            7 => Ok(Call::Show { item }),
-            _ => Err(Fault::WrongPart { at: 0 }),
+            Op::Commit => Ok(Call::Commit { seat, pass }),
+            Op::Abandon => Ok(Call::Abandon { seat, pass }),
+            Op::Show => Ok(Call::Show { item }),
         }
-    }
-}
-
-fn class(value: u32) -> Result<Class, Fault>
-    ensures { result ≡ class_of value }
-{
-    match value {
-        0 => Ok(Class::Member),
-        1 => Ok(Class::Guest),
-        _ => Err(Fault::WrongPart { at: 4 }),
-    }
-}
-
-fn mode(value: u32) -> Result<Mode, Fault>
-    ensures { result ≡ mode_of value }
-{
-    match value {
-        0 => Ok(Mode::Reader),
-        1 => Ok(Mode::Update),
-        _ => Err(Fault::WrongPart { at: 4 }),
     }
 }

@@ -1,47 +1,25 @@
 // The board that is asked for by numbers.
-ghost use Rattle.std.specs.Prelude.{◌≡◌};
-ghost use Rattle.station.specs.Setups.{kind_of, rule_of, header_of};
+ghost use Rattle.std.specs.Prelude.{◌≡◌, true, IfSome};
+ghost use Rattle.board.specs.Sizes.{fits};
+ghost use Rattle.player.specs.Scripts.{slots_lent};
+ghost use Rattle.station.specs.Setups.{header_of};
 
+use crate::numbers::numbered;
 use board::setup_fits;
-use calls::{BoardKind, Header, RuleName};
+use calls::Header;
 use player::SLOTS;
-
-pub(crate) fn kind_of(kind: u32) -> Option<BoardKind>
-    ensures { result ≡ kind_of kind }
-{
-    match kind {
-        0 => Some(BoardKind::Drive),
-        1 => Some(BoardKind::Switch),
-        _ => None,
-    }
-}
-
-fn rule_of(rule: u32) -> Option<RuleName>
-    ensures { result ≡ rule_of rule }
-{
-    match rule {
-        0 => Some(RuleName::Now),
-        1 => Some(RuleName::Warp),
-        2 => Some(RuleName::HomeNow),
-        3 => Some(RuleName::HomeWarp),
-        _ => None,
-    }
-}
 
 // None where the kind or the rule is not known, or a count is out of range.
 pub(crate) fn header_of(kind: u32, rule: u32, items: u32, seats: u32) -> Option<Header>
-    ensures { result ≡ header_of kind rule items seats }
+    ensures header { result ≡ header_of kind rule items seats }
+    ensures fit { IfSome result (λ h. fits h.items h.seats slots_lent ≡ true) }
 {
-    let board = kind_of(kind)?;
-    let rule = rule_of(rule)?;
-    if setup_fits(items, seats, SLOTS) {
-        Some(Header {
-            board,
-            items,
-            seats,
-            rule,
-        })
-    } else {
-        None
-    }
+    let board = numbered(kind)?;
+    let rule = numbered(rule)?;
+    setup_fits(items, seats, SLOTS).then_some(Header {
+        board,
+        items,
+        seats,
+        rule,
+    })
 }

@@ -1,9 +1,9 @@
-// How many bytes a board takes.
+// How many bytes a board takes: two names that C knows.
 ghost use Rattle.std.specs.Prelude.{◌≡◌};
 ghost use Rattle.station.specs.Setups.{kind_of};
 ghost use Rattle.station.specs.Sizes.{version_bytes, board_bytes};
 
-use crate::setup::kind_of;
+use crate::numbers::numbered;
 use board::Board;
 use calls::{BoardKind, RuleName};
 use kinds::{Locomotive, Turnout};
@@ -14,7 +14,7 @@ use versions::Version;
 pub extern "C" fn station_version_bytes(kind: u32) -> usize
     ensures { result ≡ version_bytes (kind_of kind) }
 {
-    match kind_of(kind) {
+    match numbered(kind) {
         Some(BoardKind::Drive) => size_of::<Version<Locomotive>>(),
         Some(BoardKind::Switch) => size_of::<Version<Turnout>>(),
         None => 0,
@@ -26,7 +26,7 @@ pub extern "C" fn station_version_bytes(kind: u32) -> usize
 pub extern "C" fn station_board_bytes(kind: u32) -> usize
     ensures { result ≡ board_bytes (kind_of kind) }
 {
-    match kind_of(kind) {
+    match numbered(kind) {
         Some(BoardKind::Drive) => size_of::<Board<'static, Locomotive, RuleName>>(),
         Some(BoardKind::Switch) => size_of::<Board<'static, Turnout, RuleName>>(),
         None => 0,

@@ -32,22 +32,13 @@ const TOLD: [(u32, u32); 10] = [
 
 #[test]
 fn two_operators_are_answered(rt: HostRuntime) {
-    let mut requests = [Request {
-        op: 0,
-        seat: 0,
-        pass: 0,
-        item: 0,
-        value: 0,
-    }; 10];
-    for (i, (op, seat, pass, item, value)) in REQUESTS.iter().enumerate() {
-        requests[i] = Request {
-            op: *op,
-            seat: *seat,
-            pass: *pass,
-            item: *item,
-            value: *value,
-        };
-    }
+    let requests = REQUESTS.map(|(op, seat, pass, item, value)| Request {
+        op,
+        seat,
+        pass,
+        item,
+        value,
+    });
     let mut answers = [Answer {
         refusal: 99,
         first: 99,
@@ -55,9 +46,10 @@ fn two_operators_are_answered(rt: HostRuntime) {
     }; 10];
     let status = station_run(rt.alloc(), 0, 1, 2, 2, &requests, &mut answers);
     assert_eq!(rt; status, 0);
-    for (i, (first, second)) in TOLD.iter().enumerate() {
-        assert_eq!(rt; answers[i].refusal, 0, "request {i}");
-        assert_eq!(rt; answers[i].first, *first, "request {i}");
-        assert_eq!(rt; answers[i].second, *second, "request {i}");
-    }
+    let told = TOLD.map(|(first, second)| Answer {
+        refusal: 0,
+        first,
+        second,
+    });
+    assert_eq!(rt; answers, told);
 }

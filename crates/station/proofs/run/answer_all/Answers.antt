@@ -4,8 +4,8 @@ use Rattle.station.proofs.run.answer_all.Goals as goal
 
 pub loop-i-preserved : goal.loop-i-preserved
 loop-i-preserved g c =
-    reached_more g.K.Kind.state g.K.Kind.coded g.K.Kind.rest g.K.Kind.count g.R.Rule.answers c.args.board.now c.loop-i.board c.answer_one.new.board c.args.requests.now c.loop-i.i _ c.loop-i.answers c.answer_one.result (search rules) c.loop-i-test.true c.loop-i.invariant c.answer_one.ensures
+    reached_more g.R.Rule.answers c.args.board.now c.loop-i.board c.outcome_of.new.board c.args.requests.now c.loop-i.i _ c.loop-i.answers c.outcome_of.result c.into.result (search rules) c.loop-i-test.true c.loop-i.invariant c.outcome_of.ensures c.into.ensures
 
 pub returns : goal.returns
 returns g c =
-    reached_all g.K.Kind.state g.K.Kind.coded g.K.Kind.rest g.K.Kind.count g.R.Rule.answers c.args.board.now c.loop-i.board c.args.requests.now c.loop-i.i c.loop-i.answers (search rules) c.loop-i-test.false c.loop-i.invariant
+    reached_all g.R.Rule.answers c.args.board.now c.loop-i.board c.args.requests.now c.loop-i.i c.loop-i.answers (search rules) c.loop-i-test.false c.loop-i.invariant

@@ -2,4 +2,4 @@ use Rattle.station.proofs.Answering.{Reached}
 use Rattle.station.proofs.run.answer_all.Given as goal
 
 abbrev pub invariant-loop-i : goal.invariant-loop-i
-invariant-loop-i g l = Reached g.K.Kind.state g.K.Kind.coded g.K.Kind.rest g.K.Kind.count g.R.Rule.answers l.initial.board l.board l.requests l.i l.answers
+invariant-loop-i g l = Reached g.R.Rule.answers l.initial.board l.board l.requests l.i l.answers
