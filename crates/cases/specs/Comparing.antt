@@ -1,10 +1,9 @@
 -- Where two texts part.
-use Rattle.std.specs.Prelude.{◌≡◌, ℕ, ◌+◌, cond, List, [], ◌∷◌, take, drop, ◌==◌}
+use Rattle.std.specs.Prelude.{◌≡◌, ℕ, List, [], ◌∷◌, take, drop, ◌==◌, count_by}
 
 -- how many lines a text has ended
 abbrev pub newlines : List ℕ → ℕ
-newlines [] = 0
-newlines (c ∷ cs) = cond (c == 10) (newlines cs + 1) (newlines cs)
+newlines text = count_by (λ c. c == 10) text
 
 -- one ends where the other goes on, or both go on with different bytes
 abbrev pub DifferHere : List ℕ → List ℕ → Type 0

@@ -1,5 +1,5 @@
 -- What is counted in a text of answers.
-use Rattle.std.specs.Prelude.{◌≡◌, ℕ, ◌+◌, min, Bool, cond, ◌&&◌, List, [], ◌∷◌, ◌++◌, map, replicate, decimal, ◌==◌, nat_lt, slice_index, slice_set}
+use Rattle.std.specs.Prelude.{◌≡◌, ℕ, ◌+◌, ◌≤◌, min, Bool, cond, ◌&&◌, List, [], ◌∷◌, ◌++◌, map, replicate, decimal, ◌==◌, nat_lt, slice_index, slice_set}
 use Rattle.script.specs.Parts.{joined_by}
 use Rattle.cases.specs.declared.answers.Answer.{Answer}
 use Rattle.cases.specs.declared.tally.Tally.{Tally}
@@ -7,6 +7,13 @@ use Rattle.cases.specs.declared.tally.Tally.{Tally}
 -- four numbers parted by a space, and a newline
 abbrev pub written : Answer → List ℕ
 written a = joined_by 32 (map decimal (a.line ∷ a.refusal ∷ a.first ∷ a.second ∷ [])) ++ (10 ∷ [])
+
+-- seven digits are enough for each of its numbers
+pub record IsWritable (a : Answer) : Type 0 where
+  pub line : a.line ≤ 9999999
+  pub refusal : a.refusal ≤ 9999999
+  pub first : a.first ≤ 9999999
+  pub second : a.second ≤ 9999999
 
 abbrev pub all_written : List Answer → List ℕ
 all_written [] = []

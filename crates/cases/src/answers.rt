@@ -1,10 +1,13 @@
 // Answers, read back from their lines.
-ghost use Rattle.std.specs.Prelude.{◌≡◌, ◌&&◌, ◌∷◌, ◌++◌, IfSome, decimal};
-ghost use Rattle.cases.specs.Counting.{written, is_granted, is_warped};
+ghost use Rattle.std.specs.Prelude.{◌≡◌, ℕ, ◌<◌, ◌≤◌, List, ◌∷◌, ◌++◌, IfSome, IsSomeAnd, if◌then◌else◌, decimal, position, ◌==◌};
+ghost use Rattle.script.specs.Numbers.{is_number, value};
+ghost use Rattle.cases.specs.declared.answers.Answer.{Answer};
+ghost use Rattle.cases.specs.Counting.{written, IsWritable, is_granted, is_warped};
 
-use script::GREATEST;
+use script::is_number;
 
-#[derive(Clone, Copy)]
+// The four numbers of an answer's line, as they stand in the text: a refusal is 0 where the call was accepted.
+#[derive(Clone, Copy, Debug, PartialEq, Eq)]
 pub struct Answer {
     pub line: u32,
     pub refusal: u32,
@@ -28,27 +31,39 @@ impl Answer {
     }
 }
 
+// The number that these bytes write. `parse` alone would take a sign and zeros in front.
+fn number(text: &[u8]) -> Option<u32>
+    ensures { result ≡ (if is_number text.now then Some (value text.now) else None) }
+{
+    if !is_number(text) {
+        return None;
+    }
+    str::from_utf8(text).ok()?.parse().ok()
+}
+
+// Where the first `mark` stands.
+fn place(bytes: &[u8], mark: u8) -> Option<usize>
+    ensures { result ≡ position (λ b. b == mark) bytes.now }
+{
+    bytes.iter().position(|byte| *byte == mark)
+}
+
 // The number that stands in front of the first `end`, and what follows that. `None` where no number of an answer stands there.
 fn number_before(bytes: &[u8], end: u8) -> Option<(u32, &[u8])>
-    ensures { IfSome result (λ p. bytes.now ≡ decimal p.0 ++ (end ∷ p.1.now)) }
+    requires { end < 48 }
+    ensures read { IfSome result (λ p. bytes.now ≡ decimal p.0 ++ (end ∷ p.1.now)) }
+    ensures each { (n : ℕ) (rest : List ℕ) → n ≤ 9999999 → bytes.now ≡ decimal n ++ (end ∷ rest) → IsSomeAnd result (λ p. (p.0 ≡ n) × (p.1.now ≡ rest)) }
 {
-    let mut n = 0;
-    for (i, byte) in bytes.iter().enumerate() {
-        if i > 0 && *byte == end {
-            return Some((n, &bytes[i + 1..]));
-        }
-        if !byte.is_ascii_digit() || i > 0 && n == 0 || n > GREATEST / 10 {
-            return None;
-        }
-        n = n * 10 + (*byte - b'0') as u32;
-    }
-    None
+    let at = place(bytes, end)?;
+    let n = number(&bytes[..at])?;
+    Some((n, &bytes[at + 1..]))
 }
 
 // The answer at the front of a text, and what follows it: an answer that is read is, byte for byte, the one that stands there. `None`
-// where none is read.
+// where none stands there.
 pub fn first_answer(text: &[u8]) -> Option<(Answer, &[u8])>
-    ensures { IfSome result (λ p. text.now ≡ written p.0 ++ p.1.now) }
+    ensures read { IfSome result (λ p. text.now ≡ written p.0 ++ p.1.now) }
+    ensures each { (a : Answer) (rest : List ℕ) → IsWritable a → text.now ≡ written a ++ rest → IsSomeAnd result (λ p. (p.0 ≡ a) × (p.1.now ≡ rest)) }
 {
     let (line, rest) = number_before(text, b' ')?;
     let (refusal, rest) = number_before(rest, b' ')?;

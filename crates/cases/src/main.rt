@@ -7,7 +7,7 @@ mod tally;
 
 use crate::compare::{first_difference, line_at};
 use crate::tally::Tally;
-use anyhow::anyhow;
+use anyhow::bail;
 use player::play_script;
 use std::io::Write;
 use std::{fs, io};
@@ -28,30 +28,14 @@ fn play_case(rt: &HostRuntime, name: &str, tally: &mut Tally) -> anyhow::Result<
         println!(rt; "{name}: answer {} differs", line.saturating_add(1))?;
         print_line(rt, "stored", &stored, line)?;
         print_line(rt, "played", &played, line)?;
-        return Err(anyhow!("a script is not answered as stored"));
+        bail!("a script is not answered as stored");
     }
     tally.note_script();
-    if tally.note_all(&stored).is_err() {
+    if let Err(no_answers) = tally.note_all(&stored) {
         println!(rt; "{name}: not a list of answers")?;
-        return Err(anyhow!("stored answers cannot be read"));
+        return Err(no_answers.into());
     }
     Ok(())
-}
-
-fn print_tally(rt: &HostRuntime, tally: &Tally) -> io::Result<()> {
-    println!(rt;
-        "{} scripts, {} answer lines: no difference",
-        tally.scripts, tally.lines
-    )?;
-    for (number, count) in tally.refusals.iter().enumerate() {
-        if number == 0 {
-            println!(rt; "accepted: {count}")?;
-        } else {
-            println!(rt; "refusal {number}: {count}")?;
-        }
-    }
-    println!(rt; "granted commits: {}", tally.granted)?;
-    println!(rt; "warped commits: {}", tally.warped)
 }
 
 fn play_all(rt: &HostRuntime) -> anyhow::Result<()> {
@@ -60,7 +44,7 @@ fn play_all(rt: &HostRuntime) -> anyhow::Result<()> {
     for name in index.lines() {
         play_case(rt, name, &mut tally)?;
     }
-    print_tally(rt, &tally)?;
+    println!(rt; "{tally}")?;
     Ok(())
 }
 

@@ -1,10 +1,14 @@
 // Counts of what answers tell. A count stays at the greatest number that it can hold.
-ghost use Rattle.std.specs.Prelude.{◌≡◌, OnOk, slice_index, slice_set};
-ghost use Rattle.cases.specs.Counting.{more, more_if, nothing_noted, noted, one_script, Noted};
+ghost use Rattle.std.specs.Prelude.{◌≡◌, List, IsOk, OnOk, slice_index, slice_set};
+ghost use Rattle.std.specs.List.{AllByRecursion};
+ghost use Rattle.cases.specs.declared.answers.Answer.{Answer};
+ghost use Rattle.cases.specs.Counting.{more, more_if, nothing_noted, noted, one_script, IsWritable, all_written, Noted};
 
 use crate::answers::{Answer, first_answer};
+use std::error::Error;
+use std::fmt;
 
-#[derive(Clone, Copy)]
+#[derive(Clone, Copy, Debug, Default, PartialEq, Eq)]
 pub struct Tally {
     pub scripts: u32,
     // Answer lines.
@@ -18,27 +22,23 @@ pub struct Tally {
 }
 
 // A text that is not a list of answers.
-#[derive(Clone, Copy, Debug)]
+#[derive(Clone, Copy, Debug, PartialEq, Eq)]
 pub struct NoAnswers;
 
-fn one_more(count: u32) -> u32
-    ensures { result ≡ more count }
-{
-    count.saturating_add(1)
+impl fmt::Display for NoAnswers {
+    fn fmt<W: fmt::Write>(&self, f: &mut fmt::Formatter<W>) -> fmt::Result {
+        write!(f, "stored answers cannot be read")
+    }
 }
 
-fn one_more_if(count: u32, counts: bool) -> u32
-    ensures { result ≡ more_if counts count }
-{
-    if counts { one_more(count) } else { count }
-}
+impl Error for NoAnswers {}
 
-// One more of what is counted at `at`, if anything is.
+// One more of what is counted at `at`, if anything is. After a `get_mut` no element would be known, and `returns` would stay open.
 fn count_at(counts: &mut [u32], at: usize)
     ensures { counts.new ≡ slice_set counts.old at (more (slice_index counts.old at)) }
 {
     if at < counts.len() {
-        counts[at] = one_more(counts[at]);
+        counts[at] = counts[at].saturating_add(1);
     }
 }
 
@@ -46,43 +46,52 @@ impl Tally {
     pub fn new() -> Tally
         ensures { result ≡ nothing_noted }
     {
-        Tally {
-            scripts: 0,
-            lines: 0,
-            refusals: [0; 19],
-            granted: 0,
-            warped: 0,
-        }
+        Tally::default()
     }
 
     pub fn note_script(&mut self)
         ensures { self.new ≡ one_script self.old }
     {
-        self.scripts = one_more(self.scripts);
+        self.scripts = self.scripts.saturating_add(1);
     }
 
     // Notes an answer. A refusal that does not exist is not counted as one.
     pub fn note(&mut self, answer: &Answer)
         ensures { self.new ≡ noted self.old answer.now }
     {
-        self.lines = one_more(self.lines);
+        self.lines = self.lines.saturating_add(1);
         count_at(&mut self.refusals, answer.refusal as usize);
-        self.granted = one_more_if(self.granted, answer.is_granted());
-        self.warped = one_more_if(self.warped, answer.is_warped());
+        self.granted = self.granted.saturating_add(u32::from(answer.is_granted()));
+        self.warped = self.warped.saturating_add(u32::from(answer.is_warped()));
     }
 
-    // Notes all answers of a text.
+    // Notes all answers of a text. It fails only where the text is not a list of answers, and then some may be noted.
     pub fn note_all(&mut self, text: &[u8]) -> Result<(), NoAnswers>
-        ensures { OnOk result (Noted self.old text.now self.new) }
+        ensures noted { OnOk result (Noted self.old text.now self.new) }
+        ensures each { (answers : List Answer) → AllByRecursion IsWritable answers → text.now ≡ all_written answers → IsOk result }
     {
         let mut rest = text;
         while !rest.is_empty() {
-            let Some((answer, after)) = first_answer(rest) else {
-                return Err(NoAnswers);
-            };
+            let (answer, after) = first_answer(rest).ok_or(NoAnswers)?;
             self.note(&answer);
             rest = after;
         }
         Ok(())
+    }
+}
+
+impl fmt::Display for Tally {
+    fn fmt<W: fmt::Write>(&self, f: &mut fmt::Formatter<W>) -> fmt::Result {
+        writeln!(
+            f,
+            "{} scripts, {} answer lines: no difference",
+            self.scripts, self.lines
+        )?;
+        writeln!(f, "accepted: {}", self.refusals[0])?;
+        for (number, count) in self.refusals.iter().enumerate().skip(1) {
+            writeln!(f, "refusal {number}: {count}")?;
+        }
+        writeln!(f, "granted commits: {}", self.granted)?;
+        write!(f, "warped commits: {}", self.warped)
     }
 }

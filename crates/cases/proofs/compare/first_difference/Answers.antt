@@ -1,39 +1,28 @@
-use Rattle.std.proofs.Common.{◌+◌, sym, ap, ◌∙◌, arith}
-use Rattle.std.proofs.lemmas.List.{take_all, take_more_same}
-use Rattle.cases.proofs.Parting.{line_ended, line_goes_on, differ_longer, differ_shorter, differ_byte}
+use Rattle.std.proofs.Common.{◌≡◌, ℕ, eqb, ◌∙◌, sym, ap, take, length-take, arith}
+use Rattle.std.proofs.lemmas.List.Folds.{length-prefix_len}
+use Rattle.std.proofs.lemmas.Bool.Decides.{not_from_Decides}
+use Rattle.std.proofs.lemmas.Slice.Eq.{bytes_eq-Decides}
+use Rattle.std.specs.List.{zip}
+use Rattle.cases.specs.Comparing.{newlines}
+use Rattle.cases.proofs.Parting.{alike, alike_within, parted}
 use Rattle.cases.proofs.compare.first_difference.Goals as goal
-use Rattle.cases.proofs.compare.first_difference.Goals.{then-i-b-via-then-i-b, then-i-b-via-else-i-b+then-b-i, then-byte-eq10, else-byte-eq10}
 
-pub returns-then-i-b : goal.returns-then-i-b
-returns-then-i-b c =
+pub slice_bounds-newlines-end : goal.slice_bounds-newlines-end
+slice_bounds-newlines-end c =
+    let a = c.args.a.now in
+    let b = c.args.b.now in
+    let at : c.alike.result ≡ alike a b = c.alike.ensures ∙ length-prefix_len (λ (p : ℕ × ℕ). eqb p.0 p.1) (zip a b) in
+    omega (arith, at, alike_within a b, length-take c.alike.result a)
+
+pub returns : goal.returns
+returns c =
+    let a = c.args.a.now in
+    let b = c.args.b.now in
+    let at : c.alike.result ≡ alike a b = c.alike.ensures ∙ length-prefix_len (λ (p : ℕ × ℕ). eqb p.0 p.1) (zip a b) in
+    let p = parted a b in
     record {
-      at = c.loop-i.i;
-      alike = c.loop-i.invariant.0;
-      differ =
-          elim c.then-i-b.branch [
-            | then-i-b-via-then-i-b w ↦ differ_longer _ _ c.loop-i.i c.loop-i-test.true w.if-i-b.true
-            | then-i-b-via-else-i-b+then-b-i w ↦ differ_byte _ _ c.loop-i.i c.loop-i-test.true w.if-i-b.false (λ e. w.if-b-i.true (sym e))
-          ];
-      on_line = c.loop-i.invariant.1;
+      at = alike a b;
+      alike = p.same;
+      differ = p.differ (not_from_Decides _ (bytes_eq-Decides a b) (sym c.eq.ensures ∙ c.if-eq.false));
+      on_line = c.newlines.ensures ∙ ap (λ n. newlines (take n a)) at;
     }
-
-pub loop-i-preserved : goal.loop-i-preserved
-loop-i-preserved c =
-    let same = take_more_same c.args.a.now c.args.b.now c.loop-i.i 0 c.loop-i-test.true c.if-i-b.false c.loop-i.invariant.0 (sym c.if-b-i.false) in
-    elim c.if-byte-eq10.branch [
-      | then-byte-eq10 w ↦ (same, w.line-is ∙ ap (λ n. n + 1) c.loop-i.invariant.1 ∙ sym (line_ended c.args.a.now c.loop-i.i c.loop-i-test.true w.if-byte-eq10.true), omega (arith, w.line-is, c.loop-i.invariant.2), omega (arith, c.if-i-b.false))
-      | else-byte-eq10 w ↦ (same, w.line-is ∙ c.loop-i.invariant.1 ∙ sym (line_goes_on c.args.a.now c.loop-i.i c.loop-i-test.true w.if-byte-eq10.false), omega (arith, w.line-is, c.loop-i.invariant.2), omega (arith, c.if-i-b.false))
-    ]
-
-pub returns-then-a-b : goal.returns-then-a-b
-returns-then-a-b c =
-    record {
-      at = c.loop-i.i;
-      alike = c.loop-i.invariant.0;
-      differ = differ_shorter _ _ c.loop-i.i c.loop-i-test.false (omega (arith, c.loop-i.auto.i-end, c.if-a-b.true));
-      on_line = c.loop-i.invariant.1;
-    }
-
-pub returns-else-a-b : goal.returns-else-a-b
-returns-else-a-b c =
-    sym (take_all c.loop-i.i c.args.a.now c.loop-i-test.false) ∙ c.loop-i.invariant.0 ∙ take_all c.loop-i.i c.args.b.now (omega (arith, c.loop-i-test.false, c.if-a-b.false))

@@ -1,19 +1,14 @@
-use Rattle.std.proofs.Common.{◌≡◌, [], get_or, ap, ◌∙◌, arith}
-use Rattle.script.specs.Lines.{lines_of}
-use Rattle.cases.proofs.Parting.{passed, line_here, no_line_here}
+use Rattle.std.proofs.Common.{◌≡◌, [], eqb, get_or, unwrap_or, slice_get, option_map, ap, ◌∙◌, rules}
+use Rattle.std.specs.List.{slice_split}
+use Rattle.std.proofs.lemmas.Iterator.Consumers.{nth_from_yields_List}
+use Rattle.std.proofs.lemmas.Iterator.Splits.{YieldsList-from_slice_split}
+use Rattle.std.proofs.lemmas.Option.{unwrap_or-slice_get}
+use Rattle.cases.proofs.Parting.{or_nothing, pieces, same_lines}
 use Rattle.cases.proofs.compare.line_at.Goals as goal
 
-pub loop-passed-preserved : goal.loop-passed-preserved
-loop-passed-preserved c = passed c.next_line.result (lines_of c.args.text.now) _ _ c.loop-passed._passed c.next_line.ensures c.loop-passed.invariant
-
-pub returns-in-Some : goal.returns-in-Some
-returns-in-Some c =
-    let all = lines_of c.args.text.now in
-    let end : c.loop-passed._passed ≡ c.args.index = omega (arith, c.loop-passed.auto._passed-end, c.loop-passed-test.false) in
-    line_here all _ _ _ c.loop-passed._passed c.loop-passed.invariant c.in-Some.ensures ∙ ap (λ k. get_or all k []) end
-
-pub returns-in-None : goal.returns-in-None
-returns-in-None c =
-    let all = lines_of c.args.text.now in
-    let end : c.loop-passed._passed ≡ c.args.index = omega (arith, c.loop-passed.auto._passed-end, c.loop-passed-test.false) in
-    no_line_here all _ c.loop-passed._passed c.loop-passed.invariant c.in-None.ensures.0 ∙ ap (λ k. get_or all k []) end
+pub returns : goal.returns
+returns c =
+    let text = c.args.text.now in
+    let found : option_map (λ x. x.now) c.nth.result ≡ slice_get (slice_split (λ b. eqb b 10) text) c.args.index =
+    nth_from_yields_List _ _ _ c.nth.ensures.ran (YieldsList-from_slice_split _ (λ b. eqb b 10) text c.split.ensures.rest c.split.ensures.done c.split.ensures.closure (λ x b q called. search rules)) in
+    or_nothing c.nth.result _ c.unwrap_or_default.result c.unwrap_or_default.ensures (λ empty. empty) ∙ ap (λ r. unwrap_or r []) found ∙ unwrap_or-slice_get _ c.args.index [] ∙ ap (λ ps. get_or ps c.args.index []) (pieces text) ∙ same_lines text c.args.index
