@@ -4,32 +4,39 @@ use calls::{Call, Class, Mode};
 use kinds::Turnout;
 use rules::Warp;
 use std::process::Abort;
+use std::test::Fail;
+use versions::Version;
 
-// What the board of these tests answers.
-#[derive(Clone, Copy, Debug, PartialEq, Eq)]
-pub(crate) enum Told {
-    // The first and the second number of the answer line.
-    Accepted(u32, u32),
-    // The number of the refusal.
-    Refused(u32),
-}
+// A board of these tests.
+pub(crate) type Turnouts<'m> = Board<'m, Turnout, Warp>;
 
-// Accepted, with nothing to tell.
-pub(crate) const DONE: Told = Told::Accepted(0, 0);
-
-fn ask(board: &mut Board<'_, Turnout, Warp>, call: Call) -> Told {
-    match board.call(call) {
-        Ok(reply) => Told::Accepted(reply.first(), reply.second()),
-        Err(refusal) => Told::Refused(refusal.number()),
+pub(crate) fn turnouts(
+    items: u32,
+    seats: u32,
+    memory: &mut [Version<Turnout>],
+) -> Result<Turnouts<'_>, Fail> {
+    // `map_err` is refused here: "the borrow checker does not cover this function yet", since a refused setup holds the memory.
+    match Board::new(items, seats, Warp, memory) {
+        Ok(board) => Ok(board),
+        Err(_) => Err(Fail::new("refused setup")),
     }
 }
 
+// What it answers: the first and the second number of the answer line, or the number of the refusal.
+pub(crate) type Told = Result<(u32, u32), u32>;
+
+// Accepted, with nothing to tell.
+pub(crate) const DONE: Told = Ok((0, 0));
+
+fn ask(board: &mut Turnouts<'_>, call: Call) -> Told {
+    board
+        .call(call)
+        .map(|reply| (reply.first(), reply.second()))
+        .map_err(|refusal| refusal.number())
+}
+
 // Makes calls one after the other; each must be answered as it says.
-pub(crate) fn check_calls(
-    rt: &impl Abort,
-    board: &mut Board<'_, Turnout, Warp>,
-    steps: &[(Call, Told)],
-) {
+pub(crate) fn check_calls(rt: &impl Abort, board: &mut Turnouts<'_>, steps: &[(Call, Told)]) {
     for (i, (call, told)) in steps.iter().enumerate() {
         assert_eq!(rt; ask(board, *call), *told, "call {i}: {call:?}");
     }

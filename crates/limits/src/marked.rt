@@ -15,11 +15,7 @@ fn mark(slot: u32) -> Version<Turnout> {
 }
 
 pub(crate) fn marked(heap: Global, slots: u32) -> Result<Vec<Version<Turnout>>, AllocError> {
-    let mut memory = Vec::new(heap);
-    for slot in 0..slots {
-        memory.push(mark(slot))?;
-    }
-    Ok(memory)
+    (0..slots).map(mark).collect(heap)
 }
 
 // The code, the natural number and the place of a version.
@@ -29,11 +25,7 @@ pub(crate) fn parts(version: &Version<Turnout>) -> (u32, u32, u32) {
 
 // That all slots from this one on are as `marked` made them.
 pub(crate) fn check_marked(rt: &impl Abort, memory: &[Version<Turnout>], from: usize) {
-    let mut slot = 0u32;
-    for (i, version) in memory.iter().enumerate() {
-        if i >= from {
-            assert_eq!(rt; parts(version), parts(&mark(slot)), "slot {i}");
-        }
-        slot = slot.saturating_add(1);
+    for (slot, version) in (0u32..).zip(memory).skip(from) {
+        assert_eq!(rt; *version, mark(slot), "slot {slot}");
     }
 }

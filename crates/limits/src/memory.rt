@@ -1,5 +1,5 @@
 // What a board does to the memory that it is lent.
-use crate::asking::{DONE, Operator, Told, admit, check_calls};
+use crate::asking::{DONE, Operator, Turnouts, admit, check_calls, turnouts};
 use crate::marked::{check_marked, marked, parts};
 use board::Board;
 use kinds::Turnout;
@@ -9,38 +9,31 @@ use std::test::Fail;
 use versions::Version;
 
 // Grants an update that writes a code of its own to item 2.
-fn change_item_2(
-    rt: &impl Abort,
-    board: &mut Board<'_, Turnout, Warp>,
-    operator: Operator,
-    clock: u32,
-) {
+fn change_item_2(rt: &impl Abort, board: &mut Turnouts<'_>, operator: Operator, clock: u32) {
     let next = clock.saturating_add(1);
     check_calls(
         rt,
         board,
         &[
-            (operator.update(), Told::Accepted(clock, 0)),
+            (operator.update(), Ok((clock, 0))),
             (operator.write(2, clock), DONE),
-            (operator.commit(), Told::Accepted(next, next)),
+            (operator.commit(), Ok((next, next))),
         ],
     );
 }
 
 // Fills the version list of the last of three items, while an open transaction keeps every version.
 fn fill_the_last_list(rt: &impl Abort, memory: &mut [Version<Turnout>]) -> Result<(), Fail> {
-    let Ok(mut board) = Board::new(3, 2, Warp, memory) else {
-        return Err(Fail::new("refused setup"));
-    };
+    let mut board = turnouts(3, 2, memory)?;
     let open = Operator { seat: 0, pass: 1 };
     let busy = Operator { seat: 1, pass: 2 };
     check_calls(
         rt,
         &mut board,
         &[
-            (admit(0), Told::Accepted(1, 0)),
-            (admit(1), Told::Accepted(2, 0)),
-            (open.update(), Told::Accepted(1, 0)),
+            (admit(0), Ok((1, 0))),
+            (admit(1), Ok((2, 0))),
+            (open.update(), Ok((1, 0))),
         ],
     );
     for clock in 1..8 {
@@ -51,12 +44,12 @@ fn fill_the_last_list(rt: &impl Abort, memory: &mut [Version<Turnout>]) -> Resul
         &mut board,
         &[
             // A ninth version finds no room, and one of another item does.
-            (busy.update(), Told::Accepted(8, 0)),
+            (busy.update(), Ok((8, 0))),
             (busy.write(2, 1), DONE),
-            (busy.commit(), Told::Refused(15)),
-            (busy.update(), Told::Accepted(8, 0)),
+            (busy.commit(), Err(15)),
+            (busy.update(), Ok((8, 0))),
             (busy.write(0, 34), DONE),
-            (busy.commit(), Told::Accepted(9, 9)),
+            (busy.commit(), Ok((9, 9))),
         ],
     );
     Ok(())
