@@ -39,7 +39,10 @@ impl<K: Kind, R: Rule> Board<'_, K, R> {
     {
         let mut missed = Missed::nothing();
         for item in 0..self.items {
-            missed = self.with_missed(missed, txn, item);
+            // Tested here too, since a call for each of 256 items would take half of a commit's time.
+            if txn.marks[item] {
+                missed = self.with_missed(missed, txn, item);
+            }
         }
         missed
     }
@@ -63,11 +66,10 @@ impl<K: Kind, R: Rule> Board<'_, K, R> {
         requires { (item < self.now.items) × (item < 256) }
         ensures { WhileOpen self.now txn.now (λ s x. (vs : List Version) → Tells before vs → Tells result (vs ++ missed_of s x item)) }
     {
-        if txn.marks[item] {
-            count_missed(self.slots(item), txn.start, before)
-        } else {
-            before
+        if !txn.marks[item] {
+            return before;
         }
+        count_missed(self.slots(item), txn.start, before)
     }
 
     fn overtaken(&self, txn: &Transaction) -> bool
