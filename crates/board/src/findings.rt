@@ -38,6 +38,7 @@ impl<K: Kind, R: Rule> Board<'_, K, R> {
         ensures { WhileOpen self.now txn.now (λ s x. Tells result (missed (setup_of R.answers self.now) s x)) }
     {
         let mut missed = Missed::nothing();
+        // By the item's number, which is the index of its mark and of its slots.
         for item in 0..self.items {
             // Tested here too, since a call for each of 256 items would take half of a commit's time.
             if txn.marks[item] {
@@ -52,6 +53,7 @@ impl<K: Kind, R: Rule> Board<'_, K, R> {
     pub(crate) fn lowest_missed(&self, txn: &Transaction) -> u32
         ensures { WhileOpen self.now txn.now (λ s x. result ≡ lowest self.now.items (λ item. nat_lt 0 (length (missed_of s x item)))) }
     {
+        // By the item's number, which it gives.
         for item in 0..self.items {
             let missed = self.with_missed(Missed::nothing(), txn, item);
             if missed.earliest.is_some() {

@@ -13,7 +13,7 @@ pub struct Tally {
     pub scripts: u32,
     // Answer lines.
     pub lines: u32,
-    // How many of them have which refusal: the numbers are 1 to 18, and 0 stands for none.
+    // How many of them have which refusal: by the numbers that stand in the text, which are 1 to 18, and 0 for none.
     pub refusals: [u32; 19],
     // How many of them tell a granted commit.
     pub granted: u32,

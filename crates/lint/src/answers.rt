@@ -15,7 +15,7 @@ fn verdict(line: &[u8]) -> Result<Reply, Fault>
     Ok(Reply::Done)
 }
 
-// The answers to a script's commands, which are all its lines but the first. (`player` goes over them alike, with a board: a function for both
+// The answers to a script's commands, which are all its lines but the first. (`player` and `explain` go over them alike: a function for all
 // would take a closure, and require of its caller that it can be called.)
 fn answer_commands(heap: Global, lines: Lines<'_>) -> Result<Vec<u8>, AllocError>
     ensures { IfOk result (λ v. v.items ≡ answers_from 2 lines.entry) }

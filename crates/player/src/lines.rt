@@ -18,7 +18,7 @@ fn outcome_of<K: Kind, R: Rule>(board: &mut Board<'_, K, R>, line: &[u8]) -> Res
     Ok(reply)
 }
 
-// Plays a line on a board. The answer to it goes to the front of `out`, zeros after it, and its length is given back.
+// Plays a line on a board. The answer to it goes to the front of `out`, zeros after it, and its length is given back: no memory is taken.
 pub fn play_line<K: Kind, R: Rule>(
     board: &mut Board<'_, K, R>,
     number: u32,

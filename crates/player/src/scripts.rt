@@ -14,7 +14,7 @@ use rules::Rule;
 use script::{Lines, next_line_number, only_answer, open_script};
 use std::alloc::{AllocError, Global};
 
-// The answers to a script's commands, which are all its lines but the first.
+// The answers to a script's commands, which are all its lines but the first: each as the public call for one line writes it.
 fn play_commands<K: Kind, R: Rule>(
     heap: Global,
     board: &mut Board<'_, K, R>,
