@@ -31,7 +31,8 @@ impl Answer {
     }
 }
 
-// The number that these bytes write. `parse` alone would take a sign and zeros in front.
+// The number that these bytes write. `parse` alone would take a sign and zeros in front. (`script` has it of what is known to be a number, and
+// so closed: a function for other crates requires nothing.)
 fn number(text: &[u8]) -> Option<u32>
     ensures { result ≡ (if is_number text.now then Some (value text.now) else None) }
 {
