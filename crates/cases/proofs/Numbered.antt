@@ -1,27 +1,17 @@
 -- Numbers and answers, read off a text.
-use Rattle.std.proofs.Common.{◌≡◌, ℕ, ◌+◌, ◌<◌, ◌≤◌, Bool, true, false, cond, not, eqb, ltb, List, [], ◌∷◌, ◌++◌, length, get_or, take, drop, decimal, Option, Some, None, Result, Ok, position, sym, refl, ap, ◌∙◌, arith}
-use Rattle.std.specs.Str.{IsUtf8}
-use Rattle.std.specs.Str.Parse.{AllDigits, ParsesUnsigned}
+use Rattle.std.proofs.Common.{◌≡◌, ℕ, ◌+◌, ◌<◌, ◌≤◌, Bool, true, false, cond, not, eqb, ltb, List, [], ◌∷◌, ◌++◌, length, get_or, take, drop, decimal, Option, Some, None, position, sym, refl, ap, ◌∙◌, arith}
+use Rattle.std.specs.Str.Parse.{AllDigits}
 use Rattle.std.specs.List.{position_or_len, AllByRecursion}
 use Rattle.std.proofs.Math.Numerals.{one-add}
 use Rattle.std.proofs.Math.Seq.{take-append_seam, drop-append-add}
 use Rattle.std.proofs.lemmas.Bool.{ltb-true, lt-ltb, eqb-true, eq-eqb, ne_eqb}
 use Rattle.std.proofs.lemmas.List.{length-append, take-append-drop, drop_more}
 use Rattle.std.proofs.lemmas.List.Sums.{passes_at_first}
-use Rattle.std.proofs.lemmas.Fmt.{IsAscii-from_digits}
-use Rattle.std.proofs.lemmas.Str.{IsUtf8-from_ascii}
-use Rattle.std.proofs.lemmas.Str.Parse.{parse_gives, digit_from_value}
+use Rattle.std.proofs.lemmas.Str.Parse.{digit_from_value}
 use Rattle.script.specs.Numbers.{is_number, value}
 use Rattle.cases.specs.declared.answers.Answer.{Answer}
 use Rattle.cases.specs.Counting.{written, all_written, IsWritable}
-use Rattle.script.proofs.Figures.{own, formed, value_small, decimal_formed, value_written, written_value}
-
--- a text that has the form of a number can be parsed, and is what is written of it
-pub number_text : (text : List ℕ) → is_number text ≡ true → IsUtf8 text
-number_text text e = IsUtf8-from_ascii text (IsAscii-from_digits text (own.to text (formed text e).digits))
-
-pub parsed : {E : Type 0} (text : List ℕ) (r : Result ℕ E) → is_number text ≡ true → ParsesUnsigned 32 10 text r → r ≡ Ok (value text)
-parsed text r e h = let f = formed text e in parse_gives own 32 text r h f.digits f.some (omega (arith, value_small text e))
+use Rattle.script.proofs.Figures.{own, formed, decimal_formed, value_written, written_value}
 
 written_if : (b : Bool) (text : List ℕ) (n : ℕ) → is_number text ≡ b → cond b (Some (value text)) None ≡ Some n → text ≡ decimal n
 written_if true text n e h = let same : value text ≡ n = cc in sym (written_value text e) ∙ ap decimal same

@@ -1,10 +1,9 @@
 // Answers, read back from their lines.
-ghost use Rattle.std.specs.Prelude.{◌≡◌, ℕ, ◌<◌, ◌≤◌, List, ◌∷◌, ◌++◌, IfSome, IsSomeAnd, if◌then◌else◌, decimal, position, ◌==◌};
-ghost use Rattle.script.specs.Numbers.{is_number, value};
+ghost use Rattle.std.specs.Prelude.{◌≡◌, ℕ, ◌<◌, ◌≤◌, List, ◌∷◌, ◌++◌, IfSome, IsSomeAnd, decimal, position, ◌==◌};
 ghost use Rattle.cases.specs.declared.answers.Answer.{Answer};
 ghost use Rattle.cases.specs.Counting.{written, IsWritable, is_granted, is_warped};
 
-use script::is_number;
+use script::number;
 
 // The four numbers of an answer's line, as they stand in the text: a refusal is 0 where the call was accepted.
 #[derive(Clone, Copy, Debug, PartialEq, Eq)]
@@ -29,17 +28,6 @@ impl Answer {
     {
         self.is_granted() && self.second < self.first
     }
-}
-
-// The number that these bytes write. `parse` alone would take a sign and zeros in front. (`script` has it of what is known to be a number, and
-// so closed: a function for other crates requires nothing.)
-fn number(text: &[u8]) -> Option<u32>
-    ensures { result ≡ (if is_number text.now then Some (value text.now) else None) }
-{
-    if !is_number(text) {
-        return None;
-    }
-    str::from_utf8(text).ok()?.parse().ok()
 }
 
 // Where the first `mark` stands.

@@ -1,10 +1,9 @@
 -- Lemmas on the digits of a number.
-use Rattle.std.proofs.Common.{◌≡◌, ℕ, ◌<◌, ◌≤◌, min, true, not, ◌||◌, eqb, List, length, get_or, Ok, Result, decimal, sym, ap, subst, ⊎_elim, arith, rules}
-use Rattle.std.specs.Str.{IsAscii, IsUtf8, all_ascii_digits}
-use Rattle.std.specs.Str.Parse.{ParsesUnsigned}
-use Rattle.std.proofs.lemmas.Str.{IsUtf8-from_ascii}
-use Rattle.std.proofs.lemmas.Fmt.{decimal_digit, decimal_nonempty, decimal-digits_value, digits_decimal, first_decimal, length-decimal-le, digits_value-decimal, parse-decimal, IsAscii-decimal}
-use Rattle.std.proofs.lemmas.Str.Parse.{IsNumeralModel, numerals_by_fold, digits_value_short}
+use Rattle.std.proofs.Common.{◌≡◌, ℕ, ◌+◌, ◌-◌, ◌*◌, ◌%◌, ◌^◌, ◌<◌, ◌≤◌, min, [], ◌∷◌, refl, ◌∙◌, fold, true, not, ◌||◌, eqb, List, length, get_or, decimal, ap, ⊎_elim, arith, rules}
+use Rattle.std.specs.Char.{is_ascii_digit}
+use Rattle.std.specs.Str.{all_ascii_digits}
+use Rattle.std.proofs.lemmas.Fmt.{decimal_digit, decimal_nonempty, decimal-digits_value, digits_decimal, first_decimal, length-decimal-le, digits_value-decimal}
+use Rattle.std.proofs.lemmas.Str.Parse.{IsNumeralModel, numerals_by_fold, digits_value_short, digit_from_value}
 use Rattle.std.proofs.lemmas.Bool.{and_from, and_parts, or_left, or_right, not_from_false, cases_lt, eq-eqb, ne_eqb, lt-ltb, le-leb, ltb-true, leb-true}
 use Rattle.std.proofs.lemmas.Bool.Decides.{nat_tests}
 use Rattle.script.specs.Answers.{shown}
@@ -51,12 +50,24 @@ value_written n h = digits_value-decimal own n (omega arith)
 pub written_value : (text : List ℕ) → is_number text ≡ true → decimal (value text) ≡ text
 written_value text e = let f = formed text e in decimal-digits_value own text f.digits f.some f.lead (omega (arith, value_small text e))
 
--- such a text can be read as one of characters, and is parsed
-pub number_text : (text : List ℕ) → is_number text ≡ true → IsUtf8 text
-number_text text e = IsUtf8-from_ascii text (subst IsAscii (written_value text e) (IsAscii-decimal (value text) (omega (arith, value_small text e))))
-
-pub parsed : {E : Type 0} (text : List ℕ) (r : Result ℕ E) → is_number text ≡ true → ParsesUnsigned 32 10 text r → r ≡ Ok (value text)
-parsed text r e p = parse-decimal 32 (value text) text r (omega (arith, value_small text e)) (omega (arith, value_small text e)) (sym (written_value text e)) p
-
 pub shown_short : (n : ℕ) → length (shown n) ≤ 7
 shown_short n = length-decimal-le 7 (min n 9999999) (omega arith) (omega arith) (omega arith)
+
+-- one digit more, as 32 bits hold it
+abbrev pub with_digit : ℕ → ℕ → ℕ
+with_digit n c = (n * 10 % 2 ^ 32 + (c + (2 ^ 8 - 48)) % 2 ^ 8) % 2 ^ 32
+
+value_grows : (n : ℕ) (ds : List ℕ) → n ≤ value_after n ds
+value_grows n [] = omega arith
+value_grows n (c ∷ cs) = omega (arith, value_grows (n * 10 + (c - 48)) cs)
+
+-- a small number does not wrap
+no_wrap : (n c : ℕ) → 48 ≤ c → c < 58 → n * 10 + (c - 48) < 10000000 → with_digit n c ≡ n * 10 + (c - 48)
+no_wrap n c low high small = omega arith
+
+pub folded : (n : ℕ) (ds : List ℕ) → all_ascii_digits ds ≡ true → value_after n ds < 10000000 → fold with_digit n ds ≡ value_after n ds
+folded n [] digits small = refl
+folded n (c ∷ cs) digits small =
+    let range = digit_from_value c (own.to (c ∷ cs) digits).0 in
+    let next = n * 10 + (c - 48) in
+    ap (λ m. fold with_digit m cs) (no_wrap n c (omega (arith, range)) (omega (arith, range)) (omega (arith, small, value_grows next cs))) ∙ folded next cs (and_parts (is_ascii_digit c) (all_ascii_digits cs) digits).1 small

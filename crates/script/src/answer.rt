@@ -1,5 +1,5 @@
 // The line that answers a line.
-ghost use Rattle.std.specs.Prelude.{◌≡◌, ◌+◌, ◌<◌, ◌≤◌, min, [], ◌∷◌, ◌++◌, length, decimal};
+ghost use Rattle.std.specs.Prelude.{◌≡◌, ◌+◌, ◌<◌, ◌≤◌, min, [], ◌∷◌, ◌++◌, length, take, drop, decimal};
 ghost use Rattle.script.specs.Answers.{refusal_of, first_of, second_of, shown, answer, padded};
 
 use calls::{Fault, Reply};
@@ -26,6 +26,23 @@ pub fn answer_numbers(outcome: &Result<Reply, Fault>) -> (u32, u32, u32)
         Ok(reply) => (0, reply.first(), reply.second()),
         Err(fault) => (fault.number(), fault.named(), 0),
     }
+}
+
+// Puts the decimal digits of a number from `at` on, and gives the place after them. The place is handed on from digit to digit: where each
+// digit reads it from a text and writes it back, an answer takes twice as long.
+fn put_digits(bytes: &mut [u8; 32], at: usize, n: u32) -> usize
+    requires { at + length (decimal n) ≤ 32 }
+    ensures end { result ≡ at + length (decimal n) }
+    ensures front { take result bytes.new ≡ take at bytes.old ++ decimal n }
+    ensures behind { drop result bytes.new ≡ drop result bytes.old }
+{
+    if n < 10 {
+        bytes[at] = b'0' + n as u8;
+        return at + 1;
+    }
+    let last = put_digits(bytes, at, n / 10);
+    bytes[last] = b'0' + (n % 10) as u8;
+    last + 1
 }
 
 // A text of up to 32 bytes, and zeros behind it.
@@ -56,38 +73,21 @@ impl Text {
         }
     }
 
-    fn push(&mut self, byte: u8)
-        requires { length self.old < 32 }
-        ensures { self.new ≡ self.old ++ byte ∷ [] }
-    {
-        self.bytes[self.len] = byte;
-        self.len += 1;
-    }
-
-    // Adds the decimal digits of a number. `write!` is not used: what it says allows that it fails, and an answer is always written.
-    fn push_digits(&mut self, n: u32)
-        requires { length self.old + length (decimal n) ≤ 32 }
-        ensures { self.new ≡ self.old ++ decimal n }
-    {
-        if n >= 10 {
-            self.push_digits(n / 10);
-        }
-        self.push(b'0' + (n % 10) as u8);
-    }
-
-    // Adds a number of an answer and the byte that ends it.
+    // Adds a number of an answer and the byte that ends it. `write!` is not used: what it says allows that it fails, and an answer is always
+    // written.
     fn push_field(&mut self, n: u32, end: u8)
         requires { length self.old + 8 ≤ 32 }
         ensures short { length self.new ≤ length self.old + 8 }
         ensures text { self.new ≡ self.old ++ (shown n ++ end ∷ []) }
     {
-        self.push_digits(n.min(GREATEST));
-        self.push(end);
+        let at = put_digits(&mut self.bytes, self.len, n.min(GREATEST));
+        self.bytes[at] = end;
+        self.len = at + 1;
     }
 }
 
-// Writes the answer to line `line` to the front of `out`, the caller's, since no memory is taken for it, zeros after it, and gives the answer's length. A number past the greatest is
-// told as the greatest.
+// Writes the answer to line `line` to the front of `out`, the caller's, since no memory is taken for it, zeros after it, and gives the
+// answer's length. A number past the greatest is told as the greatest.
 pub fn write_answer(out: &mut [u8; 32], line: u32, outcome: &Result<Reply, Fault>) -> usize
     ensures len { result ≡ length (answer line outcome.now) }
     ensures bytes { out.new ≡ padded (answer line outcome.now) }

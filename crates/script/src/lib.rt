@@ -25,7 +25,7 @@ pub use lines::{Lines, SCRIPT_LIMIT, script_fits};
 pub use open::{Unopened, open_script};
 pub use read::{read_command, read_header};
 pub use scan::LINE_LIMIT;
-pub use token::{Token, is_number};
+pub use token::{Token, is_number, number};
 pub use words::{Listed, Op};
 
 #[cfg(test)]

@@ -66,7 +66,9 @@ impl<'l> Scanner<'l> {
         }
     }
 
-    // The value of the next part, which should be a pair with this key.
+    // The value of the next part, which should be a pair with this key. This and `number` are inlined: `arguments` has so many calls of
+    // them that LLVM leaves them standing.
+    #[inline(always)]
     fn pair(&mut self, key: &[u8]) -> Result<Token<'l>, Fault>
         ensures value { MatchResult result (λ t. Found key.now self.old.at self.old.parts t) (λ e. (value_at key.now self.old.parts ≡ None) × (e ≡ WrongPart self.old.at)) }
         ensures moved { self.new ≡ onward self.old }
@@ -84,6 +86,7 @@ impl<'l> Scanner<'l> {
     }
 
     // The number of the next pair.
+    #[inline(always)]
     pub(crate) fn number(&mut self, key: &[u8]) -> Result<u32, Fault>
         ensures value { result ≡ number_at key.now self.old.at self.old.parts }
         ensures moved { self.new ≡ onward self.old }
