@@ -77,11 +77,12 @@ module _ {R : Type 0} (answers : R → Findings → Option ℕ) (board : Content
       → (s : State) (x : Running) → Holds board s → Runs board.items t x → (vs : List Kept) → Tells before vs → Tells after (vs ++ missed_of s x k)
   missed_marked t k before after slots lt marked at one s x h r vs so_far = subst (λ l. Tells after (vs ++ l)) (newer_missed t k slots lt marked at s x h r) (one vs so_far)
 
+  pub none_missed : (t : Transaction) (k : ℕ) → k < board.items → get_or t.marks k false ≡ false → (s : State) (x : Running) → Holds board s → Runs board.items t x → missed_of s x k ≡ []
+  none_missed t k lt marked s x h r = cond-false (x.marked k) _ _ (sym (r.marks k lt) ∙ marked)
+
   pub missed_unmarked : (t : Transaction) (k : ℕ) (before : Missed) → k < board.items → get_or t.marks k false ≡ false
       → (s : State) (x : Running) → Holds board s → Runs board.items t x → (vs : List Kept) → Tells before vs → Tells before (vs ++ missed_of s x k)
-  missed_unmarked t k before lt marked s x h r vs so_far =
-      let none : missed_of s x k ≡ [] = cond-false (x.marked k) _ _ (sym (r.marks k lt) ∙ marked) in
-      subst (Tells before) (sym (ap (λ l. vs ++ l) none ∙ append-nil vs)) so_far
+  missed_unmarked t k before lt marked s x h r vs so_far = subst (Tells before) (sym (ap (λ l. vs ++ l) (none_missed t k lt marked s x h r) ∙ append-nil vs)) so_far
 
   ---- the seats
 

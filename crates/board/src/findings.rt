@@ -40,7 +40,7 @@ impl<K: Kind, R: Rule> Board<'_, K, R> {
         let mut missed = Missed::nothing();
         // By the item's number, which is the index of its mark and of its slots.
         for item in 0..self.items {
-            // Tested here too, since a call for each of 256 items would take half of a commit's time.
+            // The mark is tested before the call, since a call for each of 256 items would take half of a commit's time.
             if txn.marks[item] {
                 missed = self.with_missed(missed, txn, item);
             }
@@ -55,15 +55,20 @@ impl<K: Kind, R: Rule> Board<'_, K, R> {
     {
         // By the item's number, which it gives.
         for item in 0..self.items {
-            let missed = self.with_missed(Missed::nothing(), txn, item);
-            if missed.earliest.is_some() {
+            // The mark is tested before the call, as in `missed`.
+            if txn.marks[item]
+                && self
+                    .with_missed(Missed::nothing(), txn, item)
+                    .earliest
+                    .is_some()
+            {
                 return item as u32;
             }
         }
         self.items as u32
     }
 
-    // What was missed before, and of one item.
+    // What was missed before, and of one item: nothing of an unmarked one, which both callers pass over before they call.
     fn with_missed(&self, before: Missed, txn: &Transaction, item: usize) -> Missed
         requires { (item < self.now.items) × (item < 256) }
         ensures { WhileOpen self.now txn.now (λ s x. (vs : List Version) → Tells before vs → Tells result (vs ++ missed_of s x item)) }
