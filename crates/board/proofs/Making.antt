@@ -1,4 +1,5 @@
 -- A new board.
+use base.Fml.{GName}
 use Rattle.std.proofs.Common.{◌≡◌, ℕ, zero, suc, ◌+◌, ◌*◌, ◌≤◌, true, leb, List, ◌∷◌, length, get_or, take, drop, replicate, None, Option, sym, refl, ap, ◌∙◌, subst, arith}
 use lib.ListN.{length-replicate}
 use Rattle.std.specs.List.{AllByRecursion}
@@ -61,10 +62,10 @@ new_sound {S} state codes items seats slots rest versions resting fit laid =
     }
 
 -- a board with nothing in it but rest versions holds the new state
-pub new_holds : {R : Type 0} (answers : R → Findings → Option ℕ) (items seats codes rest : ℕ) (rule : R) (versions : List Kept) → versions ≡ replicate (items * 8) (record { code = rest; natural = 0; place = 0 })
-    → (board : Contents R) → board ≡ record { items = items; seat_count = seats; codes = codes; rest = rest; rule = rule; clock = 1; passes = 0; stamps = replicate 256 0; seats = replicate 32 None; versions = versions }
+pub new_holds : {R : Type 0} (answers : R → Findings → Option ℕ) (items seats codes rest : ℕ) (rule : R) (versions : List Kept) (lent : (ℕ × ℕ) × GName) → versions ≡ replicate (items * 8) (record { code = rest; natural = 0; place = 0 })
+    → (board : Contents R) → board ≡ record { items = items; seat_count = seats; codes = codes; rest = rest; rule = rule; clock = 1; passes = 0; stamps = replicate 256 0; seats = replicate 32 None; versions = versions; lent = lent }
     → Holds board (new_board (setup_of answers board))
-new_holds {R} answers items seats codes rest rule versions laid board is = subst (λ (b : Contents R). Holds b (new_board (setup_of answers b))) (sym is) (record {
+new_holds {R} answers items seats codes rest rule versions lent laid board is = subst (λ (b : Contents R). Holds b (new_board (setup_of answers b))) (sym is) (record {
   clock = refl;
   passes = refl;
   stamps = λ item _. get_d_replicate 256 item 0;

@@ -1,4 +1,5 @@
 -- What a board keeps: the states of its versions by their codes.
+use base.Fml.{GName}
 use Rattle.std.specs.Prelude.{ℕ, List, Option}
 use Rattle.rules.specs.declared.findings.Findings.{Findings}
 use Rattle.history.specs.State.{Setup, Version}
@@ -17,6 +18,8 @@ pub record Contents (R : Type 0) : Type 0 where
   pub seats : List (Option Held)
   -- the slots of all items, eight for each
   pub versions : List Version
+  -- the reference to the lent memory in which they lie: where it points to, and its name
+  pub lent : (ℕ × ℕ) × GName
 
 -- what somebody asks a board to be made for
 abbrev pub setup_for : {S R : Type 0} → (S → ℕ) → S → ℕ → (R → Findings → Option ℕ) → ℕ → ℕ → R → Setup
@@ -39,6 +42,7 @@ with_clock board clock = record {
   stamps = board.stamps;
   seats = board.seats;
   versions = board.versions;
+  lent = board.lent;
 }
 
 -- the board, with another count of passes
@@ -54,6 +58,7 @@ with_passes board passes = record {
   stamps = board.stamps;
   seats = board.seats;
   versions = board.versions;
+  lent = board.lent;
 }
 
 -- the board, with other stamps
@@ -69,6 +74,7 @@ with_stamps board stamps = record {
   stamps = stamps;
   seats = board.seats;
   versions = board.versions;
+  lent = board.lent;
 }
 
 -- the board, with other seats
@@ -84,6 +90,7 @@ with_seats board seats = record {
   stamps = board.stamps;
   seats = seats;
   versions = board.versions;
+  lent = board.lent;
 }
 
 -- the board, with other versions
@@ -99,4 +106,5 @@ with_versions board versions = record {
   stamps = board.stamps;
   seats = board.seats;
   versions = versions;
+  lent = board.lent;
 }

@@ -31,7 +31,7 @@ pub struct Board<'m, K: Kind, R: Rule> {
 impl<'m, K: Kind, R: Rule> Model for Board<'m, K, R> {
     ghost Value = { Contents R };
 
-    ghost view = { λ b. record { items = b.items; seat_count = b.seat_count; codes = K.COUNT; rest = K.coded K.REST; rule = b.rule; clock = b.clock; passes = b.passes; stamps = b.stamps; seats = b.seats; versions = as_codes K.coded b.versions.now } };
+    ghost view = { λ b. record { items = b.items; seat_count = b.seat_count; codes = K.COUNT; rest = K.coded K.REST; rule = b.rule; clock = b.clock; passes = b.passes; stamps = b.stamps; seats = b.seats; versions = as_codes K.coded b.versions.now; lent = (b.versions.ref_ptr, b.versions.ghost_name) } };
 
     ghost invariant = { λ b. Sound K.state K.COUNT b.items b.seat_count b.seats b.versions.now };
 }

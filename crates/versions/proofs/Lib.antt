@@ -4,3 +4,4 @@ pub mod Missing
 pub mod Spots
 pub mod Edited
 pub mod Laid
+pub mod Coded

@@ -11,4 +11,4 @@ pub use missed::{Missed, count_missed};
 pub use sight::{Sight, code_in_sight, find, head_code};
 pub use spot::has_room;
 pub use storing::{lay_at_rest, store};
-pub use version::Version;
+pub use version::{Version, codes_tell_versions};

@@ -1,5 +1,6 @@
 // Versions of an item.
 ghost use Rattle.std.specs.Prelude.{◌≡◌, not, ◌==◌};
+ghost use Rattle.versions.specs.Codes.{CodesTellVersions};
 
 use kinds::Kind;
 
@@ -34,3 +35,8 @@ impl<K: Kind> Version<K> {
         }
     }
 }
+
+// Versions that are told by their codes are told whole: no two states of a kind have one code. A board's contracts tell its slots so.
+pub fn codes_tell_versions<K: Kind>()
+    ensures { CodesTellVersions K.state K.coded }
+{}

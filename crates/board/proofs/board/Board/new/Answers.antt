@@ -17,7 +17,7 @@ returns g c = (
     made_for = refl;
     leads = from_new;
     holds =
-        new_holds g.R.Rule.answers c.args.items c.args.seats g.K.Kind.COUNT (g.K.Kind.coded g.K.Kind.REST) c.args.rule (as_codes g.K.Kind.coded c.lay_at_rest.new.slots)
+        new_holds g.R.Rule.answers c.args.items c.args.seats g.K.Kind.COUNT (g.K.Kind.coded g.K.Kind.REST) c.args.rule (as_codes g.K.Kind.coded c.lay_at_rest.new.slots) _
         (ap (as_codes g.K.Kind.coded) (c.lay_at_rest.ensures ∙ ap (λ n. replicate n (rest_version g.K.Kind.REST)) c.split_at_mut-versions.ensures.front_len) ∙ map-replicate (as_code g.K.Kind.coded) _ (rest_version g.K.Kind.REST)) _ refl;
   },
 )
